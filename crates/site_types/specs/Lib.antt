@@ -1,0 +1,5 @@
+pub mod Names
+pub mod Numbers
+pub mod Dates
+pub mod Ids
+pub mod Answers

@@ -1,0 +1,33 @@
+//! The words of the desk: names, ids, requests, answers, and what is recorded of units, schedules, lifecycles and images.
+#![tactic(auto)]
+
+mod answer;
+mod calendar;
+mod id;
+mod image;
+mod lifecycle;
+mod list;
+mod name;
+mod number;
+mod request;
+mod schedule;
+mod text;
+mod unit;
+mod window;
+
+pub use answer::Answer;
+pub use calendar::{CalendarItem, Day};
+pub use id::BackupId;
+pub use image::{Base, CopyRecord, Expiry, ImageRecord, Kind};
+pub use lifecycle::{OpState, Operation, Retention};
+pub use list::ListOf;
+pub use name::Name;
+pub use number::read_number;
+pub use request::{Request, WordFault};
+pub use schedule::{Mode, PolicyType, Schedule};
+pub use text::Text;
+pub use unit::Unit;
+pub use window::{Window, Windows};
+
+/// No memory was left.
+pub type NoMemory = std::alloc::AllocError;
