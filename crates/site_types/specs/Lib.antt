@@ -3,3 +3,4 @@ pub mod Numbers
 pub mod Dates
 pub mod Ids
 pub mod Answers
+pub mod Requests

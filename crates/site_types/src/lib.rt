@@ -9,11 +9,13 @@ mod lifecycle;
 mod list;
 mod name;
 mod number;
+mod read;
 mod request;
 mod schedule;
 mod text;
 mod unit;
 mod window;
+mod wording;
 
 pub use answer::Answer;
 pub use calendar::{CalendarItem, Day};

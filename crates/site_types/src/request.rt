@@ -1,4 +1,5 @@
-use crate::Name;
+use crate::{Name, NoMemory, Text};
+use std::alloc::Global;
 
 /// A request, in the order of their table.
 #[derive(Debug, Drop)]
@@ -13,4 +14,31 @@ pub enum WordFault {
     /// The word with this index, from 0, is bad; or words are missing, and the index is their number.
     Bad { index: u64 },
     NoMemory,
+}
+
+impl From<NoMemory> for WordFault {
+    ghost use Rattle.std.specs.Prelude.{◌≡◌};
+    ghost use Rattle.site_types.specs.declared.request.WordFault.TheVariants as fault;
+
+    ghost from_gives = { λ _ e. e ≡ fault.NoMemory };
+
+    fn from(_: NoMemory) -> WordFault {
+        WordFault::NoMemory
+    }
+}
+
+impl Request {
+    ghost use Rattle.site_types.specs.Requests.{IsReading, read_words};
+
+    /// The request that these words ask for.
+    pub fn read(alloc: Global, words: &[Text]) -> Result<Request, WordFault>
+        ensures { IsReading result (read_words words.now) }
+    {
+        match words {
+            [form, keys @ ..] if form.bytes() == b"bpbackup".as_slice() => {
+                crate::read::read_backup(alloc, keys)
+            }
+            _ => Err(WordFault::Bad { index: 0 }),
+        }
+    }
 }
