@@ -42,3 +42,11 @@ silent_input budget faults = record {
   reliable = ⊥;
   faults = faults;
 }
+
+-- a new source of these bytes, which tells, and never fails where no call is listed
+pub record StartsWith (bytes fails : List ℕ) (input : Input) : Type 0 where
+  pub tells : input.tells
+  pub left : input.left ≡ bytes
+  pub budget : input.budget ≡ length bytes
+  pub reliable : fails ≡ [] → input.reliable
+  pub faults : input.faults ≡ 0

@@ -1,5 +1,5 @@
 -- What is known of a clock.
-use Rattle.std.specs.Prelude.{◌≡◌, ℕ, ◌≤◌, List, []}
+use Rattle.std.specs.Prelude.{◌≡◌, ℕ, zero, suc, ◌+◌, ◌-◌, min, ◌≤◌, List, [], ◌∷◌, ◌++◌, length, slice_index}
 use Rattle.std.specs.Borrow.{GName}
 
 pub record Ticks : Type 1 where
@@ -36,3 +36,20 @@ silent_ticks faults = record {
   reliable = ⊥;
   faults = faults;
 }
+
+-- the moment after so many others: that of the list, and past its end the last
+abbrev pub moment_at : List ℕ → ℕ → ℕ
+moment_at moments n = slice_index moments (min n (length moments - 1))
+
+-- the first so many moments
+abbrev pub given : List ℕ → ℕ → List ℕ
+given moments zero = []
+given moments (suc n) = given moments n ++ moment_at moments n ∷ []
+
+-- a new clock of these moments, which tells and fails in no call that isn't listed
+pub record StartsAt (moments fails : List ℕ) (ticks : Ticks) : Type 0 where
+  pub tells : ticks.tells
+  pub gave : ticks.gave ≡ []
+  pub may_give : (n m : ℕ) → ticks.may_give n m → m ≡ moment_at moments n
+  pub reliable : fails ≡ [] → ticks.reliable
+  pub faults : ticks.faults ≡ 0
