@@ -1,0 +1,7 @@
+pub mod Disk
+pub mod Input
+pub mod Memory
+pub mod MemoryLaws
+pub mod Steps
+pub mod Stops
+pub mod Ticks
