@@ -1,0 +1,97 @@
+-- Reading what was spelled, field by field.
+use Rattle.std.proofs.Common.{◌≡◌, ◌≢◌, inl, inr, ℕ, ◌≤◌, ◌<◌, ◌^◌, List, [], ◌∷◌, ◌++◌, length, Some, None, true, refl, ◌∙◌, ap, arith, append_assoc, length-append}
+use Rattle.std.specs.Prelude.{Option, option_and_then, option_map, nat_le, ◌==◌, if◌then◌else◌}
+use Rattle.std.proofs.lemmas.List.{take_at, drop_at}
+use Rattle.std.proofs.lemmas.Bool.{cases_eq}
+use Rattle.std.proofs.lemmas.Bool.Decides.{nat_tests}
+use Rattle.std.proofs.lemmas.Nat.{from_be_bytes-to_be_bytes_2, from_be_bytes-to_be_bytes_8}
+use Rattle.std.specs.Int.{w16, w64, to_be_bytes}
+use Rattle.site_types.specs.Names.{is_name}
+use Rattle.site_types.specs.declared.id.BackupId.{BackupId}
+use Rattle.site_types.specs.declared.image.Kind.{Kind}
+use Rattle.site_types.specs.declared.image.Kind.TheVariants.{Full, Differential, Cumulative}
+use Rattle.site_types.specs.declared.image.Base.{Base}
+use Rattle.site_types.specs.declared.image.Base.TheVariants as base
+use Rattle.pool_journal.specs.Fields.{string, kind_code, base_code, Field, short_field, long_field, behind_length, string_field, named, name_field, kind_field, base_coded, base_field, both}
+use Rattle.pool_journal.specs.declared.entry.WholeImage.{WholeImage}
+use Rattle.pool_journal.specs.declared.entry.Entry.{Entry}
+use Rattle.pool_journal.specs.declared.entry.Entry.TheVariants as entry
+use Rattle.pool_journal.specs.Entries.{Record, spelled_id, spelled_names, spelled_kind_and_base, spelled_lifecycle, spelled_longs, spelled_image, spelled_entry, body_of, id_made, id_field, made_under_field, taken_as_field, version_field, moments_field, image_made, whole_image_field, with_bytes, record_of, IsFormed, IsSpellable}
+
+when_le : {A : Type 0} (a b : ℕ) (x y : A) → a ≤ b → (if nat_le a b then x else y) ≡ x
+when_le a b x y le = grind (arith, nat_tests)
+
+pub short-spelled : (n : ℕ) (rest : List ℕ) → n < 2 ^ 16 → short_field (to_be_bytes w16 n ++ rest) ≡ Some (n, rest)
+short-spelled n rest small = when_le 2 (length (to_be_bytes w16 n ++ rest)) _ None (omega arith) ∙ ap (λ (k : ℕ). Some (k, rest)) (from_be_bytes-to_be_bytes_2 n small)
+
+pub long-spelled : (n : ℕ) (rest : List ℕ) → n < 2 ^ 64 → long_field (to_be_bytes w64 n ++ rest) ≡ Some (n, rest)
+long-spelled n rest small = when_le 8 (length (to_be_bytes w64 n ++ rest)) _ None (omega arith) ∙ ap (λ (k : ℕ). Some (k, rest)) (from_be_bytes-to_be_bytes_8 n small)
+
+when_name : (b : _) (x : List ℕ × List ℕ) → b ≡ true → (if b then Some x else None) ≡ Some x
+when_name b x is = (λ i. if is i then Some x else None)
+
+pub name-spelled : (name rest : List ℕ) → is_name name ≡ true → name_field (string name ++ rest) ≡ Some (name, rest)
+name-spelled name rest is =
+    let small : length name < 2 ^ 16 = grind (arith, nat_tests) in
+    let behind : List ℕ = name ++ rest in
+    let text : string_field (string name ++ rest) ≡ Some (name, rest) =
+    ap (λ (o : Option (ℕ × List ℕ)). option_and_then behind_length o) (short-spelled (length name) behind small)
+    ∙ when_le (length name) (length behind) _ None (omega (arith, length-append name rest)) ∙ (λ i. Some (take_at name rest (length name) refl i, drop_at name rest (length name) refl i)) in
+    ap (λ (o : Option (List ℕ × List ℕ)). option_and_then named o) text ∙ when_name (is_name name) (name, rest) is
+
+pub kind-spelled : (kind : Kind) (rest : List ℕ) → kind_field (kind_code kind ∷ rest) ≡ Some (kind, rest)
+kind-spelled Full rest = refl
+kind-spelled Differential rest = refl
+kind-spelled Cumulative rest = refl
+
+base_read : (b : Base) (rest : List ℕ) → b ≢ base.Time 0 → base_coded (base_code b, rest) ≡ Some (b, rest)
+base_read base.None rest formed = refl
+base_read (base.Time t) rest formed = elim (cases_eq t 0) [
+  | inl zero_time ↦ absurd (formed (ap base.Time zero_time))
+  | inr some ↦ grind (arith, nat_tests)
+]
+
+pub base-spelled : (b : Base) (rest : List ℕ) → b ≢ base.Time 0 → base_code b < 2 ^ 64 → base_field (to_be_bytes w64 (base_code b) ++ rest) ≡ Some (b, rest)
+base-spelled b rest formed small = ap (λ (o : Option (ℕ × List ℕ)). option_and_then base_coded o) (long-spelled (base_code b) rest small) ∙ base_read b rest formed
+
+pub both-spelled : {A B : Type 0} (f : Field A) (g : Field B) (a : A) (b : B) (x y rest : List ℕ) → f (x ++ (y ++ rest)) ≡ Some (a, y ++ rest) → g (y ++ rest) ≡ Some (b, rest) → both f g ((x ++ y) ++ rest) ≡ Some ((a, b), rest)
+both-spelled {A = A} {B = B} f g a b x y rest first second =
+    ap (both f g) (append_assoc x y rest) ∙ ap (λ (o : Option (A × List ℕ)). option_and_then (λ p. option_and_then (λ q. Some ((p.0, q.0), q.1)) (g p.1)) o) first
+    ∙ ap (λ (o : Option (B × List ℕ)). option_and_then (λ q. Some ((a, q.0), q.1)) o) second
+
+pub image-spelled : (image : WholeImage) (rest : List ℕ) → IsSpellable (entry.WholeImage image) → image.base ≢ base.Time 0 → whole_image_field (spelled_image image ++ rest) ≡ Some (image, rest)
+image-spelled image rest can formed =
+    let a : List ℕ = spelled_id image.id in
+    let b : List ℕ = spelled_names image.policy image.schedule in
+    let c : List ℕ = spelled_kind_and_base image.kind image.base in
+    let d : List ℕ = spelled_lifecycle image.lifecycle image.version in
+    let e : List ℕ = spelled_longs image.completed image.length in
+    let regroup : (a ++ b ++ c ++ d ++ e) ++ rest ≡ a ++ (b ++ (c ++ (d ++ (e ++ rest)))) =
+    append_assoc (a ++ b ++ c ++ d) e rest ∙ append_assoc (a ++ b ++ c) d (e ++ rest) ∙ append_assoc (a ++ b) c (d ++ (e ++ rest)) ∙ append_assoc a b (c ++ (d ++ (e ++ rest))) in
+    let id : id_field (a ++ (b ++ (c ++ (d ++ (e ++ rest))))) ≡ Some (image.id, b ++ (c ++ (d ++ (e ++ rest)))) =
+    ap (option_map id_made) (both-spelled name_field long_field image.id.client image.id.time (string image.id.client) (to_be_bytes w64 image.id.time) _ (name-spelled _ _ can.client) (long-spelled _ _ can.time)) in
+    let under : made_under_field (b ++ (c ++ (d ++ (e ++ rest)))) ≡ Some ((image.policy, image.schedule), c ++ (d ++ (e ++ rest))) =
+    both-spelled name_field name_field image.policy image.schedule (string image.policy) (string image.schedule) _ (name-spelled _ _ can.policy) (name-spelled _ _ can.schedule) in
+    let taken : taken_as_field (c ++ (d ++ (e ++ rest))) ≡ Some ((image.kind, image.base), d ++ (e ++ rest)) =
+    both-spelled kind_field base_field image.kind image.base (kind_code image.kind ∷ []) (to_be_bytes w64 (base_code image.base)) _ (kind-spelled image.kind _) (base-spelled image.base _ formed can.base) in
+    let version : version_field (d ++ (e ++ rest)) ≡ Some ((image.lifecycle, image.version), e ++ rest) =
+    both-spelled name_field short_field image.lifecycle image.version (string image.lifecycle) (to_be_bytes w16 image.version) _ (name-spelled _ _ can.lifecycle) (short-spelled _ _ can.version) in
+    let moments : moments_field (e ++ rest) ≡ Some ((image.completed, image.length), rest) =
+    both-spelled long_field long_field image.completed image.length (to_be_bytes w64 image.completed) (to_be_bytes w64 image.length) _ (long-spelled _ _ can.completed) (long-spelled _ _ can.length) in
+    ap whole_image_field regroup
+    ∙ ap (λ (o : Option (BackupId × List ℕ)). option_and_then (λ p. option_and_then (λ q. option_and_then (λ r. option_and_then (λ s. option_and_then (λ t. Some (image_made p.0 q.0 r.0 s.0 t.0, t.1)) (moments_field s.1)) (version_field r.1)) (taken_as_field q.1)) (made_under_field p.1)) o) id
+    ∙ ap (λ (o : Option ((List ℕ × List ℕ) × List ℕ)). option_and_then (λ q. option_and_then (λ r. option_and_then (λ s. option_and_then (λ t. Some (image_made image.id q.0 r.0 s.0 t.0, t.1)) (moments_field s.1)) (version_field r.1)) (taken_as_field q.1)) o) under
+    ∙ ap (λ (o : Option ((Kind × Base) × List ℕ)). option_and_then (λ r. option_and_then (λ s. option_and_then (λ t. Some (image_made image.id (image.policy, image.schedule) r.0 s.0 t.0, t.1)) (moments_field s.1)) (version_field r.1)) o) taken
+    ∙ ap (λ (o : Option ((List ℕ × ℕ) × List ℕ)). option_and_then (λ s. option_and_then (λ t. Some (image_made image.id (image.policy, image.schedule) (image.kind, image.base) s.0 t.0, t.1)) (moments_field s.1)) o) version
+    ∙ ap (λ (o : Option ((ℕ × ℕ) × List ℕ)). option_and_then (λ t. Some (image_made image.id (image.policy, image.schedule) (image.kind, image.base) (image.lifecycle, image.version) t.0, t.1)) o) moments
+
+when_long : (m n : ℕ) (x y : Option Record) → m ≡ n → (if m == n then x else y) ≡ x
+when_long m n x y is = grind (arith, nat_tests)
+
+-- a record's body spells it
+pub record_of-body : (r : Record) → IsSpellable r.entry → IsFormed r.entry r.bytes → record_of (body_of r) ≡ Some r
+record_of-body r = at r.entry r.bytes
+  where
+    at : (e : Entry) (bytes : List ℕ) → IsSpellable e → IsFormed e bytes → record_of (spelled_entry e ++ bytes) ≡ Some (record { entry = e; bytes = bytes })
+    at (entry.WholeImage image) bytes can formed =
+        ap (λ (o : Option (WholeImage × List ℕ)). option_and_then with_bytes o) (image-spelled image bytes can formed.1) ∙ when_long image.length (length bytes) _ None formed.0

@@ -1,0 +1,6 @@
+pub mod EntryLemmas
+pub mod FieldLemmas
+pub mod Bytes
+pub mod Reading
+pub mod Append
+pub mod Opening

@@ -1,0 +1,83 @@
+-- Reading a journal's records one by one.
+use Rattle.std.proofs.Common.{◌≡◌, ◌≢◌, ℕ, suc, ◌+◌, ◌-◌, ◌<◌, ◌^◌, List, [], ◌∷◌, ◌++◌, length, take, drop, get_or, Bool, true, false, refl, sym, ◌∙◌, ap, subst, arith, append_assoc, length-append}
+use Rattle.std.specs.Prelude.{Some, None, Option, nat_eq, nat_lt, if◌then◌else◌}
+use Rattle.std.specs.List.{starts_with}
+use Rattle.std.proofs.lemmas.List.{take_all, take_at, map-append}
+use Rattle.std.proofs.lemmas.Slice.Eq.{starts_is}
+use Rattle.std.proofs.lemmas.Bool.Decides.{Decides-eqb}
+use Rattle.std.proofs.lemmas.Nat.{from_be_bytes-to_be_bytes_4}
+use Rattle.std.specs.Int.{w32, to_be_bytes, from_be_bytes}
+use Rattle.pool_journal.specs.Entries.{Record, record_of}
+use Rattle.pool_journal.specs.Records.{header, Found, Reading, broken, records, with_record, reading, placed, placed_of, spelled, AllSmall, Spell, Holds, IsToldOf}
+use Rattle.pool_journal.specs.Stops.{with_one}
+use Rattle.pool_journal.specs.declared.records.Placed.{Placed}
+use Rattle.pool_journal.proofs.Bytes.{AtRecord, reads, broken_at, spelled-one, Spell-push}
+
+pub cons_of : (rest : List ℕ) (g : ℕ) → 0 < length rest → get_or rest 0 0 ≡ g → rest ≡ g ∷ take (length rest - 1) (drop 1 rest)
+cons_of [] g long is = absurd (omega arith)
+cons_of (x ∷ xs) g long is = λ i. is i ∷ sym (take_all (length (x ∷ xs) - 1) xs (omega arith)) i
+
+-- at a closed gate all records are read
+pub told_found : (bytes : List ℕ) (bodies : List (List ℕ)) (fs : List Found) (rest : List ℕ) (entries : List Placed) → bytes ≡ header ++ spelled bodies ++ rest → Spell 16 bodies fs → AllSmall bodies → entries ≡ placed fs → 0 < length rest → get_or rest 0 0 ≢ 165
+    → IsToldOf bytes (reading bytes) entries (length bytes - length rest) None
+told_found bytes bodies fs rest entries is spell small entries_are some shut =
+    let holds : Holds bytes fs (length bytes - length rest) = record {
+      bodies = bodies;
+      gate = get_or rest 0 0;
+      tail = take (length rest - 1) (drop 1 rest);
+      shut = shut;
+      is = is ∙ ap (λ (l : List ℕ). header ++ spelled bodies ++ l) (cons_of rest (get_or rest 0 0) some refl);
+      small = small;
+      spell = spell;
+      end_is = omega (arith, ap length is, length-append (header ++ spelled bodies) rest);
+    } in
+    subst (λ (r : Reading). IsToldOf bytes r entries (length bytes - length rest) None) (sym (reads bytes fs _ holds)) (entries_are, holds)
+
+-- at a broken record those before it are read
+pub told_broken : (bytes : List ℕ) (bodies : List (List ℕ)) (fs : List Found) (rest : List ℕ) (entries : List Placed) → bytes ≡ header ++ spelled bodies ++ rest → Spell 16 bodies fs → AllSmall bodies → entries ≡ placed fs → 0 < length rest → 17 < length bytes
+    → ((n at : ℕ) → records (suc n) at rest ≡ broken [] at) → IsToldOf bytes (reading bytes) entries (length bytes - length rest) (Some (length bytes - length rest))
+told_broken bytes bodies fs rest entries is spell small entries_are some long none =
+    subst (λ (r : Reading). IsToldOf bytes r entries (length bytes - length rest) (Some (length bytes - length rest))) (sym (broken_at bytes bodies fs rest is spell small some long none)) (entries_are, refl)
+
+-- a record at an open gate that isn't all there
+pub cut_short : (rest : List ℕ) → 0 < length rest → get_or rest 0 0 ≡ 165 → ((n at : ℕ) → records (suc n) at (165 ∷ take (length rest - 1) (drop 1 rest)) ≡ broken [] at) → (n at : ℕ) → records (suc n) at rest ≡ broken [] at
+cut_short rest some open_gate none n at = ap (λ (l : List ℕ). records (suc n) at l) (cons_of rest 165 some open_gate) ∙ none n at
+
+-- a record at an open gate whose body spells none
+none_of : (n at size : ℕ) (after : List ℕ) → record_of (take size (drop 4 after)) ≡ None → AtRecord n at size after ≡ broken [] at
+none_of n at size after none = at_test (nat_lt (4 + size) (length after))
+  where
+    at_test : (b : Bool) → (if b then with_record at (record_of (take size (drop 4 after))) (records n (at + 5 + size) (drop (4 + size) after)) else broken [] at) ≡ broken [] at
+    at_test true = ap (λ (o : Option Record). with_record at o (records n (at + 5 + size) (drop (4 + size) after))) none
+    at_test false = refl
+
+pub spells_none : (rest after body next : List ℕ) → rest ≡ 165 ∷ after → after ≡ to_be_bytes w32 (length body) ++ body ++ next → length body < 2 ^ 32 → record_of body ≡ None → (n at : ℕ) → records (suc n) at rest ≡ broken [] at
+spells_none rest after body next rest_is after_is fits none n at =
+    let whole : List ℕ = to_be_bytes w32 (length body) ++ body ++ next in
+    let size : from_be_bytes w32 (take 4 whole) ≡ length body = from_be_bytes-to_be_bytes_4 (length body) fits in
+    let inside : take (length body) (drop 4 whole) ≡ body = take_at body next (length body) refl in
+    let here : AtRecord n at (length body) whole ≡ broken [] at = none_of n at (length body) whole (ap record_of inside ∙ none) in
+    ap (λ (l : List ℕ). records (suc n) at l) (rest_is ∙ ap (λ (l : List ℕ). 165 ∷ l) after_is) ∙ subst (λ (k : ℕ). AtRecord n at k whole ≡ broken [] at) (sym size) here
+
+-- one record more was read
+pub one_more : (bytes : List ℕ) (bodies : List (List ℕ)) (body rest after next : List ℕ) → bytes ≡ header ++ spelled bodies ++ rest → rest ≡ 165 ∷ after → after ≡ to_be_bytes w32 (length body) ++ body ++ next
+    → bytes ≡ header ++ spelled (bodies ++ body ∷ []) ++ next
+one_more bytes bodies body rest after next is rest_is after_is =
+    is ∙ ap (λ (l : List ℕ). header ++ spelled bodies ++ l) (rest_is ∙ ap (λ (l : List ℕ). 165 ∷ l) after_is)
+    ∙ append_assoc header (spelled bodies) (165 ∷ (to_be_bytes w32 (length body) ++ body ++ next)) ∙ ap (λ (l : List ℕ). header ++ l) (sym (spelled-one bodies body next))
+    ∙ sym (append_assoc header (spelled (bodies ++ body ∷ [])) next)
+
+pub one_more_spelled : (bytes : List ℕ) (bodies : List (List ℕ)) (fs : List Found) (body rest : List ℕ) (r : Record) → bytes ≡ header ++ spelled bodies ++ rest → Spell 16 bodies fs → record_of body ≡ Some r → Spell 16 (bodies ++ body ∷ []) (with_one fs (length bytes - length rest) r)
+one_more_spelled bytes bodies fs body rest r is spell spells =
+    let place : 16 + length (spelled bodies) ≡ length bytes - length rest = omega (arith, ap length is, length-append (header ++ spelled bodies) rest) in
+    subst (λ (k : ℕ). Spell 16 (bodies ++ body ∷ []) (with_one fs k r)) place (Spell-push 16 bodies fs body r spell spells)
+
+pub one_more_placed : (fs : List Found) (at : ℕ) (r : Record) (entries entries' : List Placed) (p : Placed) → entries ≡ placed fs → entries' ≡ entries ++ p ∷ [] → p ≡ record { at = at; entry = r.entry } → entries' ≡ placed (with_one fs at r)
+one_more_placed fs at r entries entries' p are pushed is =
+    pushed ∙ (λ i. are i ++ is i ∷ []) ∙ sym (map-append placed_of fs (record { at = at; is = r } ∷ []))
+
+-- behind the header
+pub behind_header : (bytes : List ℕ) → starts_with nat_eq bytes header ≡ true → 17 < length bytes → bytes ≡ header ++ take (length bytes - 16) (drop 16 bytes)
+behind_header bytes begins long =
+    let split : bytes ≡ header ++ drop 16 bytes = (starts_is Decides-eqb bytes header true (sym begins)).0 refl in
+    split ∙ ap (λ (l : List ℕ). header ++ l) (sym (take_all (length bytes - 16) (drop 16 bytes) (omega (arith, ap length split))))

@@ -1,0 +1,47 @@
+use Rattle.std.proofs.Common.{ap, refl, arith, ◌-◌, [], ◌∷◌, ◌++◌, length}
+use Rattle.pool_journal.specs.Entries.{Record}
+use Rattle.pool_journal.specs.Stops.{with_one}
+use Rattle.pool_journal.proofs.Bytes.{AllSmall-push}
+use Rattle.pool_journal.proofs.Reading.{cons_of, told_found, told_broken, cut_short, spells_none, one_more, one_more_spelled, one_more_placed, behind_header}
+use Rattle.pool_journal.proofs.records.read_records.Goals as goal
+
+pub loop-rest-init : goal.loop-rest-init
+loop-rest-init c = record {
+  bodies = [];
+  fs = [];
+  is = behind_header c.args.bytes.now c.requires.begins c.requires.long;
+  small = tt;
+  spell = tt;
+  entries = c.new-entries.ensures.items;
+  some = omega (arith, ap length (behind_header c.args.bytes.now c.requires.begins c.requires.long), c.requires.long);
+}
+
+pub returns-then-gate-clause-told : goal.returns-then-gate-clause-told
+returns-then-gate-clause-told c =
+    let i = c.loop-rest.invariant in
+    told_found _ i.bodies i.fs _ _ i.is i.spell i.small i.entries i.some c.if-gate.true
+
+pub returns-in_default-split_record-clause-told : goal.returns-in_default-split_record-clause-told
+returns-in_default-split_record-clause-told c =
+    let i = c.loop-rest.invariant in
+    told_broken _ i.bodies i.fs _ _ i.is i.spell i.small i.entries i.some c.requires.long (cut_short _ i.some c.if-gate.false c.in_default-split_record.ensures)
+
+pub returns-in-Err-Broken-clause-told : goal.returns-in-Err-Broken-clause-told
+returns-in-Err-Broken-clause-told c =
+    let i = c.loop-rest.invariant in
+    told_broken _ i.bodies i.fs _ _ i.is i.spell i.small i.entries i.some c.requires.long (spells_none _ _ c.in-Some.body.now c.in-Some.next.now (cons_of _ 165 i.some c.if-gate.false) c.in-Some.ensures.0 c.in-Some.ensures.1 (rw c.in-Err-Broken.field-0-is at c.in-Err-Broken.ensures))
+
+pub loop-rest-preserved : goal.loop-rest-preserved
+loop-rest-preserved c =
+    let i = c.loop-rest.invariant in
+    let entry = c.in-Ok.ensures in
+    let r : Record = record { entry = c.in-Ok.entry; bytes = entry.0 } in
+    record {
+      bodies = i.bodies ++ c.in-Some.body.now ∷ [];
+      fs = with_one i.fs (length c.args.bytes.now - length c.loop-rest.rest.now) r;
+      is = one_more _ i.bodies c.in-Some.body.now _ _ c.in-Some.next.now i.is (cons_of _ 165 i.some c.if-gate.false) c.in-Some.ensures.0;
+      small = AllSmall-push _ _ i.small c.in-Some.ensures.1;
+      spell = one_more_spelled _ i.bodies i.fs c.in-Some.body.now _ r i.is i.spell entry.1;
+      entries = one_more_placed i.fs _ r _ _ _ i.entries c.in_ok-push-in-Ok.ensures.items refl;
+      some = c.in-Some.ensures.2;
+    }

@@ -1,0 +1,126 @@
+-- Entries, as they are spelled in a record's body, and as they are read from it.
+use Rattle.std.specs.Prelude.{◌≡◌, ◌≢◌, ℕ, ◌^◌, ◌<◌, ◌==◌, if◌then◌else◌, true, List, ◌∷◌, ◌++◌, length, Option, Some, None, option_map, option_and_then, Result, Ok, Err}
+use Rattle.std.specs.Int.{w16, w64, to_be_bytes}
+use Rattle.site_types.specs.Names.{is_name}
+use Rattle.site_types.specs.declared.id.BackupId.{BackupId}
+use Rattle.site_types.specs.declared.image.Kind.{Kind}
+use Rattle.site_types.specs.declared.image.Base.{Base}
+use Rattle.site_types.specs.declared.image.Base.TheVariants as base
+use Rattle.pool_journal.specs.Fields.{string, kind_code, base_code, Field, byte_field, short_field, long_field, name_field, kind_field, base_field, both}
+use Rattle.pool_journal.specs.declared.fields.FieldFault.{FieldFault}
+use Rattle.pool_journal.specs.declared.fields.FieldFault.TheVariants.{Broken, NoMemory}
+use Rattle.pool_journal.specs.declared.entry.Entry.{Entry}
+use Rattle.pool_journal.specs.declared.entry.Entry.TheVariants as entry
+use Rattle.pool_journal.specs.declared.entry.WholeImage.{WholeImage}
+
+-- a record: an entry, and for a whole image its bytes
+pub record Record : Type 0 where
+  pub entry : Entry
+  pub bytes : List ℕ
+
+-- how an entry is spelled: its kind, and its fields
+abbrev pub spelled_id : BackupId → List ℕ
+spelled_id id = string id.client ++ to_be_bytes w64 id.time
+
+abbrev pub spelled_names : List ℕ → List ℕ → List ℕ
+spelled_names policy schedule = string policy ++ string schedule
+
+abbrev pub spelled_kind_and_base : Kind → Base → List ℕ
+spelled_kind_and_base kind base = kind_code kind ∷ to_be_bytes w64 (base_code base)
+
+abbrev pub spelled_lifecycle : List ℕ → ℕ → List ℕ
+spelled_lifecycle lifecycle version = string lifecycle ++ to_be_bytes w16 version
+
+abbrev pub spelled_longs : ℕ → ℕ → List ℕ
+spelled_longs completed length = to_be_bytes w64 completed ++ to_be_bytes w64 length
+
+abbrev pub spelled_image : WholeImage → List ℕ
+spelled_image image =
+    spelled_id image.id ++ spelled_names image.policy image.schedule ++ spelled_kind_and_base image.kind image.base ++ spelled_lifecycle image.lifecycle image.version ++ spelled_longs image.completed image.length
+
+abbrev pub spelled_entry : Entry → List ℕ
+spelled_entry (entry.WholeImage image) = 7 ∷ spelled_image image
+
+-- the body of a record
+abbrev pub body_of : Record → List ℕ
+body_of r = spelled_entry r.entry ++ r.bytes
+
+-- how it is read
+abbrev pub id_made : (List ℕ × ℕ) × List ℕ → BackupId × List ℕ
+id_made (p, rest) = (record { client = p.0; time = p.1 }, rest)
+
+abbrev pub id_field : Field BackupId
+id_field bytes = option_map id_made (both name_field long_field bytes)
+
+abbrev pub made_under_field : Field (List ℕ × List ℕ)
+made_under_field = both name_field name_field
+
+abbrev pub taken_as_field : Field (Kind × Base)
+taken_as_field = both kind_field base_field
+
+abbrev pub version_field : Field (List ℕ × ℕ)
+version_field = both name_field short_field
+
+abbrev pub moments_field : Field (ℕ × ℕ)
+moments_field = both long_field long_field
+
+abbrev pub image_made : BackupId → List ℕ × List ℕ → Kind × Base → List ℕ × ℕ → ℕ × ℕ → WholeImage
+image_made id under taken version moments = record {
+  id = id;
+  policy = under.0;
+  schedule = under.1;
+  kind = taken.0;
+  base = taken.1;
+  lifecycle = version.0;
+  version = version.1;
+  completed = moments.0;
+  length = moments.1;
+}
+
+abbrev pub whole_image_field : Field WholeImage
+whole_image_field bytes =
+    option_and_then (λ a. option_and_then (λ b. option_and_then (λ c. option_and_then (λ d. option_and_then (λ e. Some (image_made a.0 b.0 c.0 d.0 e.0, e.1)) (moments_field d.1)) (version_field c.1)) (taken_as_field b.1))
+    (made_under_field a.1)) (id_field bytes)
+
+-- a whole image's bytes stand behind its fields, as many as they say
+abbrev pub with_bytes : WholeImage × List ℕ → Option Record
+with_bytes (image, bytes) = if image.length == length bytes then Some (record { entry = entry.WholeImage image; bytes = bytes }) else None
+
+abbrev pub of_kind : ℕ × List ℕ → Option Record
+of_kind (kind, rest) = if kind == 7 then option_and_then with_bytes (whole_image_field rest) else None
+
+-- the record that a body spells, where it spells one
+abbrev pub record_of : List ℕ → Option Record
+record_of body = option_and_then of_kind (byte_field body)
+
+-- an entry that can be spelled: the number of its bytes is right, and a base is no moment 0, which spells none
+abbrev pub IsFormed : Entry → List ℕ → Type 0
+IsFormed (entry.WholeImage image) bytes = (image.length ≡ length bytes) × (image.base ≢ base.Time 0)
+
+-- a record that can be written
+abbrev pub IsWritable : Record → Type 0
+IsWritable r = (length (body_of r) < 2 ^ 32) × IsFormed r.entry r.bytes
+
+-- an entry was read: that of the record that the body spells
+abbrev pub IsEntry : Result Entry FieldFault → Option Record → Type 0
+IsEntry (Ok e) read = (bytes : List ℕ) × (read ≡ Some (record { entry = e; bytes = bytes }))
+IsEntry (Err Broken) read = read ≡ None
+IsEntry (Err NoMemory) read = Unit {0}
+
+-- the fields of an entry have the ranges of their types: names are names, and numbers fit
+abbrev pub IsNamed : List ℕ → Type 0
+IsNamed name = is_name name ≡ true
+
+pub record ImageFits (image : WholeImage) : Type 0 where
+  pub client : IsNamed image.id.client
+  pub time : image.id.time < 2 ^ 64
+  pub policy : IsNamed image.policy
+  pub schedule : IsNamed image.schedule
+  pub base : base_code image.base < 2 ^ 64
+  pub lifecycle : IsNamed image.lifecycle
+  pub version : image.version < 2 ^ 16
+  pub completed : image.completed < 2 ^ 64
+  pub length : image.length < 2 ^ 64
+
+abbrev pub IsSpellable : Entry → Type 0
+IsSpellable (entry.WholeImage image) = ImageFits image

@@ -1,0 +1,77 @@
+-- The fields of a record. Numbers are big-endian, and a string is a length of two bytes and its bytes.
+use Rattle.std.specs.Prelude.{◌≡◌, ℕ, nat_le, ◌==◌, if◌then◌else◌, List, [], ◌∷◌, ◌++◌, length, take, drop, Option, Some, None, option_and_then, Result, Ok, Err}
+use Rattle.std.specs.Borrow.{Bor}
+use Rattle.std.specs.Int.{w16, w64, to_be_bytes, from_be_bytes}
+use Rattle.site_types.specs.Names.{is_name}
+use Rattle.site_types.specs.declared.image.Kind.{Kind}
+use Rattle.site_types.specs.declared.image.Kind.TheVariants.{Full, Differential, Cumulative}
+use Rattle.site_types.specs.declared.image.Base.{Base}
+use Rattle.site_types.specs.declared.image.Base.TheVariants as base
+use Rattle.pool_journal.specs.declared.fields.FieldFault.{FieldFault}
+use Rattle.pool_journal.specs.declared.fields.FieldFault.TheVariants.{Broken, NoMemory}
+
+-- how each field is spelled
+abbrev pub string : List ℕ → List ℕ
+string text = to_be_bytes w16 (length text) ++ text
+
+abbrev pub kind_code : Kind → ℕ
+kind_code Full = 0
+kind_code Differential = 1
+kind_code Cumulative = 2
+
+abbrev pub base_code : Base → ℕ
+base_code base.None = 0
+base_code (base.Time time) = time
+
+-- what stands at the front of some bytes, and what stands behind it
+abbrev pub Field : Type 0 → Type 0
+Field A = List ℕ → Option (A × List ℕ)
+
+abbrev pub byte_field : Field ℕ
+byte_field [] = None
+byte_field (byte ∷ rest) = Some (byte, rest)
+
+abbrev pub short_field : Field ℕ
+short_field bytes = if nat_le 2 (length bytes) then Some (from_be_bytes w16 (take 2 bytes), drop 2 bytes) else None
+
+abbrev pub long_field : Field ℕ
+long_field bytes = if nat_le 8 (length bytes) then Some (from_be_bytes w64 (take 8 bytes), drop 8 bytes) else None
+
+abbrev pub behind_length : ℕ × List ℕ → Option (List ℕ × List ℕ)
+behind_length (count, rest) = if nat_le count (length rest) then Some (take count rest, drop count rest) else None
+
+abbrev pub string_field : Field (List ℕ)
+string_field bytes = option_and_then behind_length (short_field bytes)
+
+abbrev pub named : List ℕ × List ℕ → Option (List ℕ × List ℕ)
+named (text, rest) = if is_name text then Some (text, rest) else None
+
+abbrev pub name_field : Field (List ℕ)
+name_field bytes = option_and_then named (string_field bytes)
+
+abbrev pub kind_coded : ℕ × List ℕ → Option (Kind × List ℕ)
+kind_coded (code, rest) = if code == 0 then Some (Full, rest) else (if code == 1 then Some (Differential, rest) else (if code == 2 then Some (Cumulative, rest) else None))
+
+abbrev pub kind_field : Field Kind
+kind_field bytes = option_and_then kind_coded (byte_field bytes)
+
+abbrev pub base_coded : ℕ × List ℕ → Option (Base × List ℕ)
+base_coded (code, rest) = if code == 0 then Some (base.None, rest) else Some (base.Time code, rest)
+
+abbrev pub base_field : Field Base
+base_field bytes = option_and_then base_coded (long_field bytes)
+
+-- one field behind another
+abbrev pub both : {A B : Type 0} → Field A → Field B → Field (A × B)
+both first second bytes = option_and_then (λ p. option_and_then (λ q. Some ((p.0, q.0), q.1)) (second p.1)) (first bytes)
+
+-- a field was read: what stood there, and the bytes behind it
+abbrev pub IsField : {A : Type 0} → Result A FieldFault → Option (A × List ℕ) → List ℕ → Type 0
+IsField (Ok value) read rest = read ≡ Some (value, rest)
+IsField (Err Broken) read rest = read ≡ None
+IsField (Err NoMemory) read rest = Unit {0}
+
+-- a result with the bytes that its reference points to
+abbrev pub borrowed : Result (Bor (List ℕ)) FieldFault → Result (List ℕ) FieldFault
+borrowed (Ok value) = Ok value.now
+borrowed (Err fault) = Err fault

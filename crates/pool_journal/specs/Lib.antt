@@ -1,0 +1,5 @@
+pub mod Fields
+pub mod Entries
+pub mod Records
+pub mod Stops
+pub mod Faults

@@ -1,0 +1,109 @@
+// What a record says.
+ghost use Rattle.std.specs.Prelude.{◌≡◌, IfOk, Ok};
+ghost use Rattle.pool_journal.specs.Fields.{IsField};
+ghost use Rattle.pool_journal.specs.Entries.{id_field, made_under_field, taken_as_field, version_field, moments_field, whole_image_field, record_of, IsEntry};
+
+use crate::fields::{FieldFault, Fields};
+use site_types::{BackupId, Base, Kind, Name};
+use std::alloc::Global;
+
+/// What was recorded, in the order of the kinds' numbers.
+#[derive(Debug, Drop)]
+pub enum Entry {
+    /// An image was sealed, and its bytes stand in the record behind these fields.
+    WholeImage(WholeImage),
+}
+
+/// An image that was sealed. Moments are seconds since 1970-01-01T00:00:00Z.
+#[derive(Debug, Drop)]
+pub struct WholeImage {
+    pub id: BackupId,
+    pub policy: Name,
+    pub schedule: Name,
+    pub kind: Kind,
+    pub base: Base,
+    pub lifecycle: Name,
+    pub version: u16,
+    pub completed: u64,
+    /// The number of its bytes.
+    pub length: u64,
+}
+
+fn read_id(fields: &mut Fields, alloc: Global) -> Result<BackupId, FieldFault>
+    ensures { IsField result (id_field fields.old) fields.new }
+{
+    let client = fields.name(alloc)?;
+    let time = fields.long()?;
+    Ok(BackupId { client, time })
+}
+
+fn read_policy_and_schedule(fields: &mut Fields, alloc: Global) -> Result<(Name, Name), FieldFault>
+    ensures { IsField result (made_under_field fields.old) fields.new }
+{
+    let policy = fields.name(alloc)?;
+    let schedule = fields.name(alloc)?;
+    Ok((policy, schedule))
+}
+
+fn read_kind_and_base(fields: &mut Fields) -> Result<(Kind, Base), FieldFault>
+    ensures { IsField result (taken_as_field fields.old) fields.new }
+{
+    let kind = fields.kind()?;
+    let base = fields.base()?;
+    Ok((kind, base))
+}
+
+fn read_lifecycle(fields: &mut Fields, alloc: Global) -> Result<(Name, u16), FieldFault>
+    ensures { IsField result (version_field fields.old) fields.new }
+{
+    let lifecycle = fields.name(alloc)?;
+    let version = fields.short()?;
+    Ok((lifecycle, version))
+}
+
+fn read_completed_and_length(fields: &mut Fields) -> Result<(u64, u64), FieldFault>
+    ensures { IsField result (moments_field fields.old) fields.new }
+{
+    let completed = fields.long()?;
+    let length = fields.long()?;
+    Ok((completed, length))
+}
+
+// The fields of a whole image, behind the kind and before its bytes.
+fn read_whole_image(fields: &mut Fields, alloc: Global) -> Result<WholeImage, FieldFault>
+    ensures { IsField result (whole_image_field fields.old) fields.new }
+{
+    let id = read_id(fields, alloc)?;
+    let (policy, schedule) = read_policy_and_schedule(fields, alloc)?;
+    let (kind, base) = read_kind_and_base(fields)?;
+    let (lifecycle, version) = read_lifecycle(fields, alloc)?;
+    let (completed, length) = read_completed_and_length(fields)?;
+    Ok(WholeImage {
+        id,
+        policy,
+        schedule,
+        kind,
+        base,
+        lifecycle,
+        version,
+        completed,
+        length,
+    })
+}
+
+/// The entry that a record's body spells.
+pub fn read_entry(alloc: Global, body: &[u8]) -> Result<Entry, FieldFault>
+    ensures { IsEntry result (record_of body.now) }
+{
+    let mut fields = Fields::new(body);
+    match fields.byte()? {
+        7 => {
+            let image = read_whole_image(&mut fields, alloc)?;
+            if image.length != fields.rest().len() as u64 {
+                return Err(FieldFault::Broken);
+            }
+            Ok(Entry::WholeImage(image))
+        }
+        _ => Err(FieldFault::Broken),
+    }
+}

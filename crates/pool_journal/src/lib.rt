@@ -1,0 +1,16 @@
+//! The journal of a vault: one record for each change, on the disk before it is acknowledged.
+#![tactic(auto)]
+
+mod entry;
+mod fault;
+mod fields;
+mod journal;
+mod open;
+mod records;
+mod spelling;
+
+pub use entry::{Entry, WholeImage};
+pub use fault::JournalFault;
+pub use journal::Journal;
+pub use open::Opened;
+pub use records::Placed;
