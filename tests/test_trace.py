@@ -163,7 +163,9 @@ class Failing(Traced):
     """A call that the tracer lets fail: what is answered, and what the next opening finds."""
 
     def with_fault(self, calls, error, when):
-        answer, lines = self.trace("@5000 bpbackup client=b", payload=b"hello", more=["-e", f"inject={calls}:error={error}:when={when}"])
+        # (calls on the vault alone: what loads the program uses some of them too)
+        places = ["-P", str(self.desk.file()), "-P", self.desk.folder]
+        answer, lines = self.trace("@5000 bpbackup client=b", payload=b"hello", more=[*places, "-e", f"inject={calls}:error={error}:when={when}"])
         return answer, any("(INJECTED)" in line for line in lines)
 
     def each_failing(self, calls, error, start):
