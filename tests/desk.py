@@ -42,14 +42,14 @@ def frame(status, body):
 class Desk:
     """A folder for a vault, and the program run on it."""
 
-    def __init__(self, folder):
-        self.folder = str(folder)
+    def __init__(self, folder, program=PROGRAM):
+        self.folder, self.program = str(folder), str(program)
 
     def words(self, words):
         """Returns the whole command for some words, given as one text or one by one."""
         if len(words) == 1:
             words = words[0].split(" ") if words[0] else []
-        return [str(PROGRAM), self.folder, *words]
+        return [self.program, self.folder, *words]
 
     def run(self, *words, payload=b"", **how):
         """Runs the program to its end. `payload` is its standard input, or None where `how` says what that is."""

@@ -18,8 +18,6 @@ TESTS_OF = {
 class Result(unittest.TestResult):
     """Prints a line for each test that failed or was skipped, and how long each slow one took."""
 
-    passed = 0
-
     def startTest(self, test):
         super().startTest(test)
         self.began = time.monotonic()
@@ -29,9 +27,6 @@ class Result(unittest.TestResult):
         took = time.monotonic() - self.began
         if took > 5:
             print(f"{test.id()}: {took:.0f} s", flush=True)
-
-    def addSuccess(self, test):
-        self.passed += 1
 
     def addSkip(self, test, reason):
         super().addSkip(test, reason)
@@ -61,7 +56,10 @@ def main(words):
         print(f"\nFAILED {test.id()}\n{why}")
     # (a row of a table that fails counts its test as failed once, however many rows failed)
     failed = len({getattr(test, "test_case", test).id() for test, _ in bad})
-    passed = sum(1 for test in chosen if test is not None) - failed - len(result.skipped)
+    passed = len(chosen) - failed - len(result.skipped)
+    off = [form for form in TESTS_OF if form not in desk.FORMS]
+    if off:
+        print(f"forms that do not stand yet, whose tests were left out: {' '.join(off)}")
     print(f"tests: {passed} passed, {failed} failed")
     return 1 if failed or not chosen else 0
 

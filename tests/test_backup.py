@@ -170,7 +170,7 @@ def run_exactly(one, words, **how):
 
 class Exact(desk.Desk):
     def words(self, words):
-        return [str(desk.PROGRAM), self.folder, *words]
+        return [self.program, self.folder, *words]
 
 
 class Journal(DeskTest):

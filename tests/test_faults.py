@@ -2,12 +2,13 @@
 
 import os
 import resource
+import shutil
 import signal
 import subprocess
 from pathlib import Path
 
 import vault
-from desk import Desk, DeskTest
+from desk import PROGRAM, Desk, DeskTest
 from test_backup import HELLO
 
 BACKUP = "@1 bpbackup client=a"
@@ -26,7 +27,9 @@ class Folders(DeskTest):
         self.check_told(Desk("/proc/bpdesk-test").run(BACKUP, payload=b"x"), 18, b"disk fault\n")
 
     def test_a_folder_with_no_name(self):
-        self.check_told(Desk("").run(BACKUP, payload=b"x"), 18, b"disk fault\n")
+        """As from a variable of a script that was not set: nothing may be written where the program happens to run."""
+        self.check_told(Desk("").run(BACKUP, payload=b"x", cwd=self.top), 18, b"disk fault\n")
+        self.assertEqual(os.listdir(self.top), [])
 
     def test_a_name_that_is_too_long(self):
         self.check_told(Desk(Path(self.top, "n" * 300)).run(BACKUP, payload=b"x"), 18, b"disk fault\n")
@@ -44,23 +47,20 @@ class Folders(DeskTest):
         os.chmod(self.desk.file(), 0o444)
         os.chmod(self.desk.folder, 0o555)
         self.addCleanup(os.chmod, self.desk.folder, 0o755)
-        how = {}
+        refused, how = self.desk, {}
         if os.geteuid() == 0:
-            # Who may do everything is refused nothing, so the program runs as another.
+            # Who may do everything is refused nothing, so a copy of the program runs as another.
             os.chmod(self.top, 0o755)
-            how["user"] = how["group"] = 65534
-            if not self.may_run(**how):
-                self.skipTest("the program cannot be run as another user here")
-        self.check_told(self.desk.run(BACKUP, payload=b"x", **how), 18, b"disk fault\n")
-        empty = Desk(Path(self.desk.folder, "below"))
-        self.check_told(empty.run(BACKUP, payload=b"x", **how), 18, b"disk fault\n")
+            refused = Desk(self.desk.folder, shutil.copy(PROGRAM, Path(self.top, "bpdesk")))
+            how = {"user": 65534, "group": 65534, "extra_groups": []}
+            try:
+                self.assertEqual(refused.run("frobnicate", **how).status, 2)
+            except OSError as it:
+                self.skipTest(f"the program cannot be run as another user here: {it}")
+        self.check_told(refused.run(BACKUP, payload=b"x", **how), 18, b"disk fault\n")
+        below = Desk(Path(self.desk.folder, "below"), refused.program)
+        self.check_told(below.run(BACKUP, payload=b"x", **how), 18, b"disk fault\n")
         self.assertEqual(self.desk.bytes(), HELLO)
-
-    def may_run(self, **how):
-        try:
-            return self.desk.run("frobnicate", **how).status == 2
-        except OSError:
-            return False
 
     def test_a_disk_that_is_full(self):
         """A limit on the length of files stands for the full disk: a write past it fails."""

@@ -138,6 +138,24 @@ class Launcher(unittest.TestCase):
         self.run_it("a")
         self.ran(self.run_it("a", "b", path=str(path)))
 
+    def test_two_at_once_build_once(self):
+        rt = self.kit / "bin/rt"
+        rt.write_text(RT.replace("mkdir -p out", "sleep 1; mkdir -p out"))
+        environment = {**os.environ, "PATH": self.path}
+        environment.pop("BPDESK_BUILD_ONLY", None)
+        both = [subprocess.Popen([self.repository / "bpdesk", "a", "b"], stdin=subprocess.PIPE, stdout=subprocess.PIPE, stderr=subprocess.PIPE, text=True, env=environment) for _ in range(2)]
+        for process in both:
+            out, err = process.communicate("input", timeout=60)
+            self.assertEqual((process.returncode, out), (15, "2 words: a b\ninput"), err)
+        if shutil.which("flock", path=self.path):
+            self.assertEqual(self.builds(), 1)
+
+    def test_a_program_that_was_removed_is_built_again(self):
+        self.run_it("a")
+        (self.repository / "crates/bpdesk/out/bpdesk").unlink()
+        self.ran(self.run_it("a", "b"))
+        self.assertEqual(self.builds(), 2)
+
     def test_from_anywhere(self):
         (self.top / "elsewhere").mkdir()
         link = self.top / "elsewhere/desk"
