@@ -8,9 +8,8 @@ from pathlib import Path
 
 import desk
 import vault
-from desk import DeskTest, frame
+from desk import Desk, DeskTest, frame
 from test_backup import HELLO
-from test_faults import Desk
 from test_processes import IN_USE, waits_for
 
 BAD = [frame(2, b"bad request at %d\n" % index) for index in range(5)]
