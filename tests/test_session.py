@@ -62,6 +62,11 @@ ROWS = {
     "a line of 8,193 bytes": (b"x" * 8_193 + b"\n@5 bpbackup client=b\n", [BAD[0]], 2),
     "a line of 8,193 bytes, the last a carriage return": (b"x" * 8_192 + b"\r\n@5 bpbackup client=b\n", [BAD[0]], 2),
     "a last line of 8,193 bytes": (b"@5 bpbackup client=b\n" + b"x" * 8_193, [frame(0, b"b_5\n"), BAD[0]], 2),
+    "ids of one client rise": (
+        b"@5 bpbackup client=b payload=1\nx@5 bpbackup client=b payload=1\ny@3 bpbackup client=b\n@5 bpbackup client=c\n@6 bprestore id=b_6\n",
+        [frame(0, b"b_5\n"), frame(0, b"b_6\n"), frame(0, b"b_7\n"), frame(0, b"c_5\n"), frame(0, b"y")],
+        0,
+    ),
     "refusals go on": (
         b"bprestore id=b_9\n@250000000000 bpbackup client=b\n@7 bpbackup client=b\nbprestore id=b_250000000000 copy=2\n@7 bpbackup client=c\n",
         [
