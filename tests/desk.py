@@ -1,5 +1,6 @@
 """The built program as a process: its words, input, output and status. Every test reaches it through here."""
 
+import contextlib
 import os
 import shutil
 import signal
@@ -22,6 +23,9 @@ LONGEST = 67_108_864
 
 # A test that waits longer than this for the program has failed.
 PATIENCE = 120
+
+# The processes that the test under way has started.
+STARTED = []
 
 
 def is_built():
@@ -63,7 +67,9 @@ class Desk:
         """Starts the program and returns its process, with pipes for what is not said otherwise."""
         for stream in ("stdin", "stdout", "stderr"):
             how.setdefault(stream, subprocess.PIPE)
-        return subprocess.Popen(self.words(words), **how)
+        process = subprocess.Popen(self.words(words), **how)
+        STARTED.append(process)
+        return process
 
     def file(self, number=0):
         return Path(self.folder, f"{number}.nbv")
@@ -87,6 +93,7 @@ class DeskTest(unittest.TestCase):
     def setUp(self):
         self.top = tempfile.mkdtemp(prefix="bpdesk-test-")
         self.addCleanup(shutil.rmtree, self.top, ignore_errors=True)
+        self.addCleanup(end_all)
         self.made = 0
         self.desk = self.new_desk()
 
@@ -119,6 +126,19 @@ class DeskTest(unittest.TestCase):
             process.communicate()
             self.fail("the program did not end")
         return Answer(process.returncode, out, err)
+
+
+def end_all():
+    """Ends what a test that failed left running."""
+    for process in STARTED:
+        if process.poll() is None:
+            process.kill()
+            process.wait()
+        for stream in (process.stdin, process.stdout, process.stderr):
+            if stream:
+                with contextlib.suppress(OSError):
+                    stream.close()
+    STARTED.clear()
 
 
 def shown(text):

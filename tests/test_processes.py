@@ -40,7 +40,6 @@ class TwoAtOnce(DeskTest):
 
     def one_waits_while_another_runs(self, images):
         held = self.desk.start("@1 bpbackup client=first")
-        self.addCleanup(lambda: held.poll() is None and held.kill())
         # The vault is opened before the payload is read, so the first has it while its input stays open.
         length = len(vault.journal(*images))
         self.assertTrue(waits_for(self.has_opened(held, length)), "the vault was not opened before the payload came")

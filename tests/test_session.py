@@ -156,7 +156,6 @@ class Endings(DeskTest):
 
     def test_a_vault_in_use(self):
         held = self.desk.start("session")
-        self.addCleanup(lambda: held.poll() is None and held.kill())
         self.assertTrue(waits_for(lambda: self.desk.file().exists() and len(self.desk.bytes()) == len(vault.EMPTY)))
         time.sleep(0.1)
         self.check_told(self.desk.run("session", payload=self.TEXT), 18, frame(18, b"disk fault\n"), *IN_USE)
