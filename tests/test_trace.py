@@ -221,12 +221,15 @@ class Failing(Traced):
                 self.assertEqual(whats, ["reply"], "the journal was used after its sync failed")
 
     def test_an_interrupted_call_is_made_again(self):
+        met = 0
         for calls in ("pwrite64,pwritev", "pread64,preadv", "fsync,fdatasync"):
             for when in (1, 2):
                 with self.subTest(calls=calls, when=when):
                     self.desk = self.new_desk()
                     self.desk.put(HELLO)
                     answer, was_met = self.with_fault(calls, "EINTR", when)
+                    met += was_met
                     if was_met:
                         self.check(answer, 0, b"b_5000\n")
                         self.assertEqual(self.desk.bytes(), vault.journal(*vault.read(HELLO), vault.Image(b"b", 5000, b"hello", 5000)))
+        self.assertGreaterEqual(met, 4, "too few calls were interrupted to tell anything")
