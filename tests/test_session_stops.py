@@ -1,0 +1,75 @@
+"""Sessions of backups that are killed at any moment, and the order of their writes, syncs and replies."""
+
+import random
+import signal
+import threading
+import time
+
+import vault
+from desk import DeskTest, frame
+from test_trace import Step, Traced, joined
+
+
+class Kills(DeskTest):
+    ROUNDS = 60
+    TURNS = 40
+
+    def requests(self, draw, first):
+        """Returns the images of a session's backups, and its input."""
+        images = []
+        for turn in range(first, first + self.TURNS):
+            payload = draw.randbytes(draw.choice([0, 5, 300, 5_000, 200_000]))
+            images.append(vault.Image(b"a", turn, payload, turn))
+        text = b"".join(b"@%d bpbackup client=a payload=%d\n%s" % (it.time, len(it.payload), it.payload) for it in images)
+        return images, text
+
+    def test_kills_at_any_moment(self):
+        draw = random.Random(9)
+        _, text = self.requests(draw, 1)
+        began = time.monotonic()
+        self.new_desk().run("session", payload=text)
+        usual = time.monotonic() - began
+        known, killed = [], 0
+        for turn in range(self.ROUNDS):
+            if turn % 6 == 0:
+                self.desk, known = self.new_desk(), []
+            new, text = self.requests(draw, known[-1].time + 1 if known else 1)
+            process = self.desk.start("session")
+            timer = threading.Timer(draw.random() * usual * 1.1, process.send_signal, [signal.SIGKILL])
+            timer.start()
+            out, _ = process.communicate(text)
+            timer.cancel()
+            timer.join()
+            killed += process.returncode != 0
+            replies = [frame(0, it.id + b"\n") for it in new]
+            self.assertTrue(b"".join(replies).startswith(out), "a reply differs")
+            # The backups of whose reply a byte was seen.
+            seen = next(count for count in range(len(new) + 1) if len(b"".join(replies[:count])) >= len(out))
+            found = vault.read(self.desk.bytes()) if self.desk.file().exists() else []
+            self.assertTrue(found[: len(known)] == known, "an earlier image is gone")
+            more = found[len(known) :]
+            self.assertTrue(more == new[: len(more)], "the vault has images that were not sent, or not in order")
+            self.assertIn(len(more), (seen, seen + 1), "an acknowledged image is gone, or more than one was under way")
+            known = found
+        self.assertGreater(killed, self.ROUNDS // 4, "too few sessions were killed before their end to tell anything")
+        for image in known:
+            self.check_quiet(self.desk.run(f"bprestore id={image.id.decode()}"), 0, image.payload)
+
+
+class Order(Traced):
+    def test_each_record_is_synced_before_its_gate_and_its_gate_before_the_reply(self):
+        images = [vault.Image(b"a", turn, b"x" * (turn * 1_000), turn) for turn in range(1, 6)]
+        text = b"".join(b"@%d bpbackup client=a payload=%d\n%s" % (it.time, len(it.payload), it.payload) for it in images)
+        answer, lines = self.trace("session", payload=text)
+        self.assertEqual(answer.status, 0)
+        wanted = []
+        for image, gate in zip(images, vault.gates(*images)):
+            wanted += [Step("write", gate + 1, len(vault.record(image))), Step("sync"), Step("write", gate, 1), Step("sync")]
+            wanted += [Step("reply", 0, len(frame(0, image.id + b"\n")))]
+        # (a reply may be sent in several writes)
+        steps = []
+        for step in joined(self.steps(lines)):
+            if steps and step.what == steps[-1].what == "reply":
+                step = Step("reply", 0, steps.pop().count + step.count)
+            steps.append(step)
+        self.assertEqual(steps[-len(wanted) :], wanted)

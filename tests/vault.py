@@ -1,0 +1,129 @@
+"""The files of a vault, spelled and read by a small program of its own, which shares nothing with the desk."""
+
+import struct
+from typing import NamedTuple
+
+HEADER = b"NBDESK VAULT 001"
+OPEN = 0xA5
+CLOSED = 0x00
+EMPTY = HEADER + bytes([CLOSED])
+WHOLE_IMAGE = 7
+LATEST = 250_000_000_000
+
+
+class Image(NamedTuple):
+    """A record of a whole image, with the values that a backup under the built-in policy has."""
+
+    client: bytes
+    time: int
+    payload: bytes
+    completed: int
+    policy: bytes = b"adhoc"
+    schedule: bytes = b"manual"
+    kind: int = 0
+    base: int = 0
+    lifecycle: bytes = b"basic"
+    version: int = 1
+
+    @property
+    def id(self):
+        return b"%s_%d" % (self.client, self.time)
+
+
+class NotAVault(Exception):
+    """The journal is refused, with an offset."""
+
+
+def string(text):
+    return struct.pack(">H", len(text)) + text
+
+
+def body(image):
+    """Returns the body of the record of a whole image."""
+    return b"".join(
+        [
+            bytes([WHOLE_IMAGE]),
+            string(image.client),
+            struct.pack(">Q", image.time),
+            string(image.policy),
+            string(image.schedule),
+            bytes([image.kind]),
+            struct.pack(">Q", image.base),
+            string(image.lifecycle),
+            struct.pack(">H", image.version),
+            struct.pack(">Q", image.completed),
+            struct.pack(">Q", len(image.payload)),
+            image.payload,
+        ]
+    )
+
+
+def record(image):
+    """Returns a record: its open gate, its length and its body."""
+    spelled = body(image)
+    return bytes([OPEN]) + struct.pack(">I", len(spelled)) + spelled
+
+
+def journal(*images):
+    """Returns the whole journal of some images, with the closed gate at its end."""
+    return HEADER + b"".join(map(record, images)) + bytes([CLOSED])
+
+
+def gates(*images):
+    """Returns the offset of the gate of each image's record, and of the closed one at the end."""
+    at = [len(HEADER)]
+    for image in images:
+        at.append(at[-1] + len(record(image)))
+    return at
+
+
+class Reader:
+    def __init__(self, text):
+        self.text, self.at = text, 0
+
+    def take(self, count):
+        if self.at + count > len(self.text):
+            raise ValueError
+        self.at += count
+        return self.text[self.at - count : self.at]
+
+    def number(self, size):
+        return int.from_bytes(self.take(size), "big")
+
+    def string(self):
+        return self.take(self.number(2))
+
+
+def read_body(text):
+    """Returns the image that a body spells. It raises ValueError where it spells none."""
+    it = Reader(text)
+    if it.number(1) != WHOLE_IMAGE:
+        raise ValueError
+    client, time = it.string(), it.number(8)
+    policy, schedule, kind, base = it.string(), it.string(), it.number(1), it.number(8)
+    lifecycle, version = it.string(), it.number(2)
+    completed, length = it.number(8), it.number(8)
+    payload = it.take(length)
+    if it.at != len(text) or kind > 2 or not 1 <= time <= LATEST:
+        raise ValueError
+    return Image(client, time, payload, completed, policy, schedule, kind, base, lifecycle, version)
+
+
+def read(text):
+    """Returns the images of a journal in their order, up to the first gate that is not open."""
+    if len(text) <= len(EMPTY):
+        return []
+    for at, byte in enumerate(HEADER):
+        if text[at] != byte:
+            raise NotAVault(at)
+    images, at = [], len(HEADER)
+    while text[at] == OPEN:
+        end = at + 5 + int.from_bytes(text[at + 1 : at + 5], "big")
+        if at + 5 > len(text) or end >= len(text):
+            raise NotAVault(at)
+        try:
+            images.append(read_body(text[at + 5 : end]))
+        except ValueError:
+            raise NotAVault(at) from None
+        at = end
+    return images
