@@ -1,0 +1,6 @@
+pub mod Limits
+pub mod Site
+pub mod Pieces
+pub mod State
+pub mod Step
+pub mod Replay

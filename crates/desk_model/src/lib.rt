@@ -1,0 +1,3 @@
+//! The desk as a model: its state, what each request answers and what it makes of the state, and a plain program that computes
+//! that.
+#![tactic(auto)]
