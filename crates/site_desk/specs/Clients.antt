@@ -1,0 +1,10 @@
+-- Places among the clients.
+use Rattle.std.specs.Prelude.{◌≡◌, ◌<◌, ◌≤◌, ℕ, max, List, length, insert, slice_set, slice_index_or}
+use Rattle.desk_model.specs.Site.{Client, raise_last}
+use Rattle.site_desk.specs.declared.client.Place.{Place}
+use Rattle.site_desk.specs.declared.client.Place.TheVariants.{At, Before}
+
+-- raising a last id time changes the client at this place, or puts one in before it
+abbrev pub IsPlace : List Client → List ℕ → Place → Type 0
+IsPlace clients name (At i) = (i < length clients) × ((time : ℕ) (d : Client) → raise_last name time clients ≡ slice_set clients i (record { name = (slice_index_or clients i d).name; last = max (slice_index_or clients i d).last time }))
+IsPlace clients name (Before i) = (i ≤ length clients) × ((time : ℕ) → raise_last name time clients ≡ insert clients i (record { name = name; last = time }))

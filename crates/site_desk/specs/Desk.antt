@@ -1,0 +1,74 @@
+-- What contracts see of a desk.
+use Rattle.std.specs.Prelude.{◌≡◌, ◌≤◌, ℕ, Bool, true, List, [], ◌∷◌, Result, Ok, Err}
+use Rattle.site_types.specs.declared.id.BackupId.{BackupId}
+use Rattle.site_types.specs.declared.answer.Answer.{Answer}
+use Rattle.site_types.specs.declared.answer.Answer.TheVariants.{Done, OutOfMemory, DiskFault}
+use Rattle.site_types.specs.declared.request.Request.{Request}
+use Rattle.vault_disk.specs.Disk.{Disk}
+use Rattle.pool_journal.specs.Records.{Found}
+use Rattle.pool_journal.specs.Stops.{AtRest}
+use Rattle.desk_model.specs.Site.{Client, initial_site, client_named}
+use Rattle.desk_model.specs.State.{State, Image, Stored, initial, has_image}
+use Rattle.desk_model.specs.Step.{step, last_of}
+use Rattle.site_desk.specs.Stands.{applied, opened}
+
+-- the built-in site with these clients, images and pieces, without jobs
+abbrev pub built : List Client → List Image → List Stored → State
+built clients images stored = record { site = record initial_site { clients = clients }; images = images; stored = stored; jobs = []; next_job = 1 }
+
+abbrev pub images_in : Result State ℕ → List Image
+images_in (Ok s) = s.images
+images_in (Err at) = []
+
+abbrev pub stored_in : Result State ℕ → List Stored
+stored_in (Ok s) = s.stored
+stored_in (Err at) = []
+
+-- the state of a desk: the clients that it knows, and the images and pieces that its vault holds
+abbrev pub desk_state : Disk → List Client → State
+desk_state disk clients = built clients (images_in (opened disk.seen)) (stored_in (opened disk.seen))
+
+pub record DeskValue (V : Type 0) : Type 0 where
+  pub state : State
+  pub stopped : Bool
+  pub vault : V
+
+-- no image has a time above its client's last id time
+abbrev pub TimesBelow : List Client → List Image → Type 0
+TimesBelow clients images = (id : BackupId) → has_image id images ≡ true → id.time ≤ last_of (client_named id.client clients)
+
+-- the journal is at rest, and its records make the state with these clients
+pub record Kept (disk : Disk) (end : ℕ) (clients : List Client) : Type 0 where
+  pub records : List Found
+  pub images : List Image
+  pub stored : List Stored
+  pub rest : AtRest disk end records
+  pub made : applied initial records ≡ Ok (built clients images stored)
+  pub below : TimesBelow clients images
+
+-- a step's answer is the model's, or want of memory, or a fault of the disk where the model refuses nothing
+abbrev pub IsDone : Answer → Type 0
+IsDone (Done body) = Unit {0}
+IsDone _ = ⊥
+
+abbrev pub Answered : State → Request → List ℕ → ℕ → Answer → Type 0
+Answered s request payload moment OutOfMemory = Unit {0}
+Answered s request payload moment DiskFault = IsDone (step s request payload moment).0
+Answered s request payload moment answer = answer ≡ (step s request payload moment).0
+
+-- the state moves as the model's; after want of memory it is as before, and a fault says nothing of it
+abbrev pub Moved : State → Request → List ℕ → ℕ → Answer → State → Type 0
+Moved s request payload moment OutOfMemory new = new ≡ s
+Moved s request payload moment DiskFault new = Unit {0}
+Moved s request payload moment answer new = new ≡ (step s request payload moment).1
+
+-- the other state that a stop in the step may leave, beside the one before it
+abbrev pub reached : State → Request → List ℕ → ℕ → Answer → State
+reached s request payload moment OutOfMemory = s
+reached s request payload moment answer = (step s request payload moment).1
+
+-- nothing was done
+abbrev pub IsRefusal : Answer → Type 0
+IsRefusal (Done body) = ⊥
+IsRefusal DiskFault = ⊥
+IsRefusal answer = Unit {0}

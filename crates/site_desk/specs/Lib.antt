@@ -1,0 +1,4 @@
+pub mod Stands
+pub mod Desk
+pub mod Clients
+pub mod Opening

@@ -1,0 +1,85 @@
+-- What an image of a disk stands for.
+use Rattle.std.specs.Prelude.{◌≡◌, ◌⊎◌, ℕ, Bool, true, ◌&&◌, ◌||◌, not, nat_le, nat_lt, is_some, if◌then◌else◌, List, [], ◌∷◌, codes, Option, Some, None, Result, Ok, Err}
+use Rattle.std.specs.Result.{result_ok}
+use Rattle.std.specs.Str.{bytes_eq}
+use Rattle.site_types.specs.declared.image.Base.{Base}
+use Rattle.site_types.specs.declared.image.Base.TheVariants as base
+use Rattle.vault_disk.specs.Disk.{Disk, Image as DiskImage, During}
+use Rattle.pool_journal.specs.declared.entry.Entry.{Entry}
+use Rattle.pool_journal.specs.declared.entry.Entry.TheVariants as entry
+use Rattle.pool_journal.specs.declared.entry.WholeImage.{WholeImage}
+use Rattle.pool_journal.specs.Entries.{Record}
+use Rattle.pool_journal.specs.Records.{Found, Reading, found, broken, foreign, reading}
+use Rattle.desk_model.specs.Limits.{last_moment}
+use Rattle.desk_model.specs.Site.{client_named, policy_named, version_named}
+use Rattle.desk_model.specs.State.{State, Image, initial, durable, has_image}
+use Rattle.desk_model.specs.Step.{operations_of, unit_of, sealed_entry, sealed}
+
+-- a base is a moment below this one
+abbrev pub is_base_below : Base → ℕ → Bool
+is_base_below base.None time = true
+is_base_below (base.Time b) time = nat_lt b time
+
+-- an image that isn't there, under a policy and a version of a lifecycle that are; its client is there, or the policy takes every client; its moments are within their limits
+abbrev pub image_fits : State → WholeImage → Bool
+image_fits s w =
+    not (has_image w.id s.images) && is_some (policy_named w.policy s.site.policies) && is_some (version_named w.lifecycle w.version s.site.lifecycles)
+    && (is_some (client_named w.id.client s.site.clients) || bytes_eq w.policy (codes "adhoc"))
+    && nat_le 1 w.id.time && nat_le w.id.time last_moment && is_base_below w.base w.id.time && nat_le w.completed last_moment
+
+abbrev pub whole_image : State → WholeImage → List ℕ → Image
+whole_image s w bytes = record { entry = sealed_entry s.site w.id w.policy w.schedule w.kind w.base w.lifecycle w.version w.completed w.length; bytes = bytes }
+
+abbrev pub whole_unit : State → WholeImage → List ℕ
+whole_unit s w = unit_of (operations_of (version_named w.lifecycle w.version s.site.lifecycles))
+
+-- the state after one record, where it fits
+abbrev pub apply_entry : State → Entry → List ℕ → Option State
+apply_entry s (entry.WholeImage w) bytes = if image_fits s w then Some (sealed (whole_image s w bytes) (whole_unit s w) s) else None
+
+abbrev pub apply : State → Record → Option State
+apply s r = apply_entry s r.entry r.bytes
+
+-- the state after these records, or the offset of the first that doesn't fit
+abbrev pub applied_from : ℕ → Option State → List Found → Result State ℕ
+applied_from at None fs = Err at
+applied_from at (Some s) [] = Ok s
+applied_from at (Some s) (f ∷ fs) = applied_from f.at (apply s f.is) fs
+
+abbrev pub applied : State → List Found → Result State ℕ
+applied s fs = applied_from 0 (Some s) fs
+
+-- the state, and an error behind it
+abbrev pub unless_before : ℕ → Result State ℕ → Result State ℕ
+unless_before at (Ok s) = Err at
+unless_before at (Err earlier) = Err earlier
+
+-- the state that a journal makes, or the offset at which it is no vault's: of its first record that is broken or doesn't fit
+abbrev pub stood : Reading → Result State ℕ
+stood (found fs) = applied initial fs
+stood (broken fs at) = unless_before at (applied initial fs)
+stood (foreign at) = Err at
+
+abbrev pub opened : DiskImage → Result State ℕ
+opened c = stood (reading (c 0))
+
+-- the durable state that an image of a disk stands for
+abbrev pub stands : DiskImage → Option State
+stands c = result_ok (opened c)
+
+-- each image that a stop may leave now stands for this state
+pub record Standing (disk : Disk) (state : State) : Type 0 where
+  pub each : (c : DiskImage) → disk.may_leave c → stands c ≡ Some (durable state)
+
+abbrev pub StandsFor : State → State → DiskImage → Type 0
+StandsFor s t c = (stands c ≡ Some (durable s)) ⊎ (stands c ≡ Some (durable t))
+
+-- from one disk to the next each stop leaves one of two states, and nothing is sent
+pub record Between (s t : State) (old new : Disk) : Type 0 where
+  pub left : (c : DiskImage) → new.may_leave c → StandsFor s t c
+  pub during : During old new (λ c b. StandsFor s t c × (b ≡ old.sent))
+
+-- an opening leaves what could be left before, or what stands for the same
+pub record Opens (old new : Disk) : Type 0 where
+  pub left : (c : DiskImage) → new.may_leave c → old.may_leave c ⊎ (stands c ≡ stands old.seen)
+  pub during : During old new (λ c b. (old.may_leave c ⊎ (stands c ≡ stands old.seen)) × (b ≡ old.sent))

@@ -1,0 +1,5 @@
+//! The desk over a vault: requests are answered as the model answers them, and what was answered outlives a stop.
+#![tactic(auto)]
+
+mod client;
+mod replay;
