@@ -4,4 +4,5 @@ pub mod Memory
 pub mod MemoryLaws
 pub mod Steps
 pub mod Stops
+pub mod Stored
 pub mod Ticks

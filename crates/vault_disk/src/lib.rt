@@ -3,6 +3,7 @@
 
 mod call;
 mod clock;
+mod contents;
 mod durable;
 mod faults;
 mod folder;
