@@ -36,7 +36,7 @@ padded_written old padded bytes at k is long =
     let pad : List ℕ = replicate (at + k - length old) 0 in
     let front : take at padded ≡ take at old ++ replicate (at - length old) 0 = ap (λ (l : List ℕ). take at l) is ∙ take_padded old at (at + k - length old) (omega arith) in
     let back : post_of at k padded ≡ drop (at + length bytes) old =
-        drop-drop k at padded ∙ ap (λ (l : List ℕ). drop (at + k) l) is ∙ drop_padded old (at + k) ∙ ap (λ (j : ℕ). drop (at + j) old) long
+    drop-drop k at padded ∙ ap (λ (l : List ℕ). drop (at + k) l) is ∙ drop_padded old (at + k) ∙ ap (λ (j : ℕ). drop (at + j) old) long
     in
     ap (λ (l : List ℕ). l ++ (bytes ++ post_of at k padded)) front
     ∙ ap (λ (l : List ℕ). (take at old ++ replicate (at - length old) 0) ++ (bytes ++ l)) back
@@ -51,7 +51,7 @@ over_at old padded bytes part rest at k n is long same whole =
     let front : length (take at padded) ≡ at = length-take-le at padded (omega arith) in
     let post : length (post_of at k padded) ≡ length padded - (at + k) = ap length (drop-drop k at padded) ∙ length-drop (at + k) padded in
     let every : length (put_mid at k padded part) ≡ n =
-        length-append (take at padded) (part ++ post_of at k padded) ∙ omega (arith, length-append part (post_of at k padded), front, post, ap length same, long, whole, room)
+    length-append (take at padded) (part ++ post_of at k padded) ∙ omega (arith, length-append part (post_of at k padded), front, post, ap length same, long, whole, room)
     in
     take_at (put_mid at k padded part) rest n every
     ∙ ap (λ (l : List ℕ). put_mid at k padded l) same

@@ -138,6 +138,20 @@ impl Contents {
         Ok(())
     }
 
+    // Does what the call does to the files.
+    pub(crate) fn apply(&mut self, call: &Call) -> Result<(), AllocError>
+        ensures ok { OnOk result ((f : ℕ) → bytes_of self.new f ≡ changed call.now f (bytes_of self.old f)) }
+        ensures err { OnErr result ((f : ℕ) → bytes_of self.new f ≡ bytes_of self.old f) }
+    {
+        match call {
+            Call::Wrote(file, at, bytes) => self.write(*file, *at as usize, bytes.as_slice()),
+            Call::Resized(file, length) => self.resize(*file, *length as usize),
+            Call::Synced(_) => Ok(()),
+            Call::Sent(_) => Ok(()),
+            Call::Other => Ok(()),
+        }
+    }
+
     pub(crate) fn replace(&mut self, file: u32, bytes: &[u8]) -> Result<(), AllocError>
         ensures { OnOk result ((f : ℕ) → bytes_of self.new f ≡ (if file == f then bytes.now else bytes_of self.old f)) }
     {

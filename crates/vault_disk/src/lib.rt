@@ -14,11 +14,13 @@ mod memory;
 mod memory_clock;
 mod memory_source;
 mod pieces;
+mod recording;
 mod source;
+mod stop;
 mod vault;
 mod whole;
 
-pub use call::Call;
+pub use call::{Bytes, Call};
 pub use clock::Clock;
 pub use durable::{cut_durably, write_durably};
 pub use folder::FolderMachine;
@@ -30,3 +32,6 @@ pub use memory_source::MemorySource;
 pub use source::Source;
 pub use vault::{Failed, Vault};
 pub use whole::{ReadFault, read_whole};
+
+/// Memory ran out.
+pub type NoMemory = std::alloc::AllocError;
