@@ -40,3 +40,6 @@ pub use whole::{ReadFault, read_whole};
 
 /// Memory ran out.
 pub type NoMemory = std::alloc::AllocError;
+
+#[cfg(test)]
+mod tests;
