@@ -1,10 +1,10 @@
 -- What a recorded write or cut does, and one that failed.
-use Rattle.std.proofs.Common.{◌≡◌, ◌⊎◌, inl, inr, ⊎_elim, ℕ, ◌+◌, ◌<◌, ◌≤◌, ◌^◌, List, [], ◌∷◌, ◌++◌, length, reverse, refl, sym, ◌∙◌, ap, subst, arith, Result, Ok, Err, OnOk, OnErr}
+use Rattle.std.proofs.Common.{◌≡◌, ◌⊎◌, inl, inr, ⊎_elim, ℕ, ◌+◌, ◌<◌, ◌^◌, List, [], ◌∷◌, ◌++◌, length, reverse, refl, sym, ◌∙◌, ap, subst, arith, Result, Ok, Err, OnOk, OnErr}
 use Rattle.std.proofs.lemmas.List.{reverse-append}
-use Rattle.vault_disk.specs.Disk.{Disk, Image, During, Now}
-use Rattle.vault_disk.specs.Steps.{written, cut_to, Torn, Shortened, Changes, Wrote, WasCut, Elapses}
+use Rattle.vault_disk.specs.Disk.{Disk}
+use Rattle.vault_disk.specs.Steps.{written, cut_to, Wrote, WasCut, Elapses}
 use Rattle.vault_disk.specs.Log.{Log}
-use Rattle.vault_disk.specs.Memory.{Files, content, Leaves, memory_disk}
+use Rattle.vault_disk.specs.Memory.{Files, content, memory_disk}
 use Rattle.vault_disk.specs.MemoryLaws.{changed_at, torn_same, shortened_same}
 use Rattle.vault_disk.specs.Stored.{bytes_of}
 use Rattle.vault_disk.specs.declared.call.Call.{Call}

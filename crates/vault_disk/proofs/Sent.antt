@@ -1,8 +1,8 @@
 -- What was sent in the first calls stands before what was sent in the others.
-use Rattle.std.proofs.Common.{◌≡◌, ℕ, ◌+◌, ◌<◌, ◌≤◌, ◌^◌, List, [], ◌∷◌, ◌++◌, length, take, drop, get_or, reverse, refl, sym, ◌∙◌, ap, subst, arith, length-append, append_assoc, take-append-drop}
+use Rattle.std.proofs.Common.{◌≡◌, ℕ, ◌+◌, ◌<◌, ◌≤◌, List, [], ◌∷◌, ◌++◌, length, take, drop, get_or, reverse, sym, ◌∙◌, ap, arith, length-append, append_assoc, take-append-drop}
 use Rattle.std.proofs.lemmas.List.{append-nil, reverse-append, take_at}
 use Rattle.std.proofs.lemmas.Grind.{take_at_read}
-use Rattle.vault_disk.specs.Memory.{sent_of, with_sent}
+use Rattle.vault_disk.specs.Memory.{sent_of}
 use Rattle.vault_disk.specs.declared.call.Call.{Call}
 use Rattle.vault_disk.specs.declared.call.Call.TheVariants.{Wrote, Resized, Synced, Sent, Other}
 

@@ -2,7 +2,7 @@
 use Rattle.std.specs.Prelude.{ℕ, List, reverse, take}
 use Rattle.vault_disk.specs.Disk.{Image}
 use Rattle.vault_disk.specs.Memory.{content, sent_of, Leaves}
-use Rattle.vault_disk.specs.Stored.{File, bytes_of}
+use Rattle.vault_disk.specs.Stored.{bytes_of}
 use Rattle.vault_disk.specs.Stops.{stop_image}
 use Rattle.vault_disk.specs.declared.call.Call.{Call}
 use Rattle.vault_disk.specs.declared.stop.Stop.{Stop}

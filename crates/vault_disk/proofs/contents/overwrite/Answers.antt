@@ -1,4 +1,4 @@
-use Rattle.std.proofs.Common.{rules, arith, ◌≡◌, ◌∙◌}
+use Rattle.std.proofs.Common.{rules}
 use Rattle.vault_disk.proofs.Padded.{overwritten}
 use Rattle.vault_disk.proofs.contents.overwrite.Goals as goal
 

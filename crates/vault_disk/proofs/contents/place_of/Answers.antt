@@ -1,4 +1,4 @@
-use Rattle.std.proofs.Common.{rules, arith, ◌∷◌, [], ◌++◌, ◌≢◌, take, subst, sym, List}
+use Rattle.std.proofs.Common.{rules, arith, ◌≢◌, take, subst, sym, List}
 use Rattle.std.proofs.lemmas.Grind.{take_at_read}
 use Rattle.vault_disk.specs.Stored.{File, HasNo}
 use Rattle.vault_disk.proofs.Files.{passed}

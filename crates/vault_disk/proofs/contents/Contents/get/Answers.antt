@@ -1,4 +1,4 @@
-use Rattle.std.proofs.Common.{rules, ◌∙◌}
+use Rattle.std.proofs.Common.{◌∙◌}
 use Rattle.vault_disk.proofs.Files.{found, missing}
 use Rattle.vault_disk.proofs.contents.Contents.get.Goals as goal
 

@@ -1,4 +1,3 @@
-use Rattle.std.proofs.Common.{rules}
 use Rattle.vault_disk.proofs.Files.{appended}
 use Rattle.vault_disk.proofs.contents.Contents.place_for.Goals as goal
 

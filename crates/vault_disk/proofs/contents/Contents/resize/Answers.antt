@@ -1,5 +1,5 @@
 use Rattle.std.proofs.Common.{rules}
-use Rattle.vault_disk.specs.Steps.{written, cut_to}
+use Rattle.vault_disk.specs.Steps.{cut_to}
 use Rattle.vault_disk.proofs.Files.{placed}
 use Rattle.vault_disk.proofs.contents.Contents.resize.Goals as goal
 

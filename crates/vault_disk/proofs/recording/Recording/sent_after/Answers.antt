@@ -1,5 +1,4 @@
-use Rattle.std.proofs.Common.{rules, arith, ◌≡◌, ◌<◌, length, ◌∙◌, ap, sym, take, reverse, List}
-use Rattle.vault_disk.specs.Memory.{sent_of}
+use Rattle.std.proofs.Common.{rules, ◌∙◌, ap}
 use Rattle.vault_disk.specs.Log.{Log, said_after}
 use Rattle.vault_disk.proofs.Sent.{said_take, said_bound, said_length}
 use Rattle.vault_disk.proofs.recording.Recording.sent_after.Goals as goal
