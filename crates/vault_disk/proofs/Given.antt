@@ -1,5 +1,5 @@
 -- The moments that a clock in memory gave.
-use Rattle.std.proofs.Common.{◌≡◌, ℕ, zero, suc, ◌+◌, ◌-◌, min, List, [], ◌∷◌, ◌++◌, length, refl, sym, ◌∙◌, ap, subst, arith, length-append, add-one}
+use Rattle.std.proofs.Common.{◌≡◌, ℕ, zero, suc, ◌+◌, List, [], ◌∷◌, ◌++◌, length, refl, ◌∙◌, ap, length-append, add-one}
 use Rattle.vault_disk.specs.Ticks.{moment_at, given}
 
 pub given_next : (moments : List ℕ) (n : ℕ) → given moments (n + 1) ≡ given moments n ++ moment_at moments n ∷ []

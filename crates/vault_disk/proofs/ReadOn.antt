@@ -1,9 +1,9 @@
 -- What a read adds to the bytes so far.
-use Rattle.std.proofs.Common.{◌≡◌, ◌≢◌, inl, inr, ⊎_elim, ℕ, ◌+◌, ◌≤◌, ◌<◌, min, List, ◌++◌, length, take, drop, refl, sym, ◌∙◌, ap, subst, arith, length-append, length-drop, take-append-drop}
-use Rattle.std.proofs.lemmas.List.{take-take, drop-take, length-take-le, take_at, drop_at, drop-drop, take-append-le, take_all}
+use Rattle.std.proofs.Common.{◌≡◌, ℕ, ◌+◌, ◌≤◌, List, ◌++◌, length, take, drop, sym, ◌∙◌, ap, arith, length-append, length-drop, take-append-drop}
+use Rattle.std.proofs.lemmas.List.{take-take, drop-take, length-take-le, take_at, drop_at, drop-drop, take-append-le}
 use borrow.Rule.Slice.PartMut.{put_mid, post_of}
 use Rattle.vault_disk.specs.Disk.{Disk, IsSame, Now}
-use Rattle.vault_disk.specs.Steps.{Reads, ReadsFully, LookedAround, Looked}
+use Rattle.vault_disk.specs.Steps.{Reads, LookedAround, Looked}
 use Rattle.vault_disk.proofs.Moments.{goes_on, weaker}
 
 -- the first n bytes are those of the file

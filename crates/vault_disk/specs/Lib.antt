@@ -1,7 +1,10 @@
 pub mod Disk
 pub mod Input
+pub mod Log
 pub mod Memory
 pub mod MemoryLaws
+pub mod Started
 pub mod Steps
 pub mod Stops
+pub mod Stored
 pub mod Ticks

@@ -1,144 +1,267 @@
-// A machine over a real folder: file n is `n.nbv` in it, and sends go to standard output. It tells nothing of content.
-ghost use Rattle.std.specs.Prelude.{◌≤◌, length, IfOk};
-ghost use Rattle.vault_disk.specs.Steps.{Rose};
+// A vault in a real folder, of which the file of number n is `n.nbv`.
+ghost use Rattle.std.specs.Prelude.{◌<◌, ◌≤◌, length, IfOk, IfSome, vec_len};
 
-use crate::{Failed, Machine, Vault};
-use std::fs::{OpenFile, OpenOptions};
-use std::io;
-use std::io::{Read, Seek, SeekFrom, Write};
+use std::fs::{File, OpenOptions, TryLockError};
+use std::io::ErrorKind;
+use std::os::unix::fs::FileExt;
+use std::path::Path;
 use std::rt::Files;
+use std::{fs, io};
 
+// A file that is kept open. It is settled once the folder was synced after it was opened.
 #[derive(Drop)]
-pub struct FolderMachine<R: Files + Print + AllocGlobal + Drop> {
-    rt: R,
-    folder: String,
-    faults: u64,
-    send_faults: u64,
+struct OpenedFile {
+    number: u32,
+    file: File,
+    is_settled: bool,
 }
 
-impl<R: Files + Print + AllocGlobal + Drop> FolderMachine<R> {
-    pub fn new(rt: R, folder: String) -> Self {
-        FolderMachine {
-            rt,
-            folder,
-            faults: 0,
-            send_faults: 0,
+#[derive(Clone, Copy)]
+enum State {
+    Untouched,
+    Usable,
+    Broken,
+}
+
+#[derive(Drop)]
+pub(crate) struct Folder {
+    path: String,
+    files: Vec<OpenedFile>,
+    state: State,
+}
+
+impl Folder {
+    // Touches nothing yet.
+    pub(crate) fn new<R: AllocGlobal>(rt: &R, path: String) -> Folder {
+        Folder {
+            path,
+            files: Vec::new(rt.alloc()),
+            state: State::Untouched,
+        }
+    }
+
+    pub(crate) fn read<R: Files<File = File> + AllocGlobal + io::Eprint>(
+        &mut self,
+        rt: &R,
+        number: u32,
+        at: u64,
+        into: &mut [u8],
+    ) -> io::Result<usize>
+        ensures { IfOk result (λ n. n ≤ length into.new) }
+    {
+        match self.place_of(rt, number, false)? {
+            Some(place) => read_some(&self.files[place].file, at, into),
+            None => Ok(0),
+        }
+    }
+
+    pub(crate) fn write<R: Files<File = File> + AllocGlobal + io::Eprint>(
+        &mut self,
+        rt: &R,
+        number: u32,
+        at: u64,
+        bytes: &[u8],
+    ) -> io::Result<()> {
+        match self.place_of(rt, number, true)? {
+            Some(place) => write_over(&self.files[place].file, at, bytes),
+            None => Err(io::Error::from(ErrorKind::NotFound)),
+        }
+    }
+
+    pub(crate) fn cut<R: Files<File = File> + AllocGlobal + io::Eprint>(
+        &mut self,
+        rt: &R,
+        number: u32,
+        length: u64,
+    ) -> io::Result<()> {
+        match self.place_of(rt, number, true)? {
+            Some(place) => self.files[place].file.set_len(length),
+            None => Err(io::Error::from(ErrorKind::NotFound)),
+        }
+    }
+
+    // A sync that fails is final, since the system may have dropped what was written.
+    pub(crate) fn sync<R: Files<File = File> + AllocGlobal + io::Eprint>(
+        &mut self,
+        rt: &R,
+        number: u32,
+    ) -> io::Result<()> {
+        let Some(place) = self.place_of(rt, number, false)? else {
+            return Ok(());
+        };
+        let synced = self.settle(rt, place);
+        if synced.is_err() {
+            self.state = State::Broken;
+        }
+        synced
+    }
+
+    pub(crate) fn length<R: Files<File = File> + AllocGlobal + io::Eprint>(
+        &mut self,
+        rt: &R,
+        number: u32,
+    ) -> io::Result<u64> {
+        match self.place_of(rt, number, false)? {
+            Some(place) => Ok(self.files[place].file.metadata()?.len()),
+            None => Ok(0),
+        }
+    }
+
+    fn settle<R: Files<File = File>>(&mut self, rt: &R, place: usize) -> io::Result<()> {
+        match self.files.get_mut(place) {
+            Some(opened) => {
+                opened.file.sync_all()?;
+                if !opened.is_settled {
+                    sync_folder(rt, self.path.as_str())?;
+                    opened.is_settled = true;
+                }
+                Ok(())
+            }
+            None => Err(io::Error::from(ErrorKind::NotFound)),
+        }
+    }
+
+    // Where the file stands among those that are open. One that doesn't exist is made, or is none.
+    fn place_of<R: Files<File = File> + AllocGlobal + io::Eprint>(
+        &mut self,
+        rt: &R,
+        number: u32,
+        is_made: bool,
+    ) -> io::Result<Option<usize>>
+        ensures { IfOk result (λ found. IfSome found (λ place. place < vec_len self.new.files)) }
+    {
+        self.enter(rt)?;
+        if let Some(place) = self.files.iter().position(|opened| opened.number == number) {
+            return Ok(Some(place));
+        }
+        match open_file(rt, self.path.as_str(), number, is_made) {
+            Ok(file) => self.add(number, file),
+            Err(fault) => {
+                if !is_made && fault.kind() == ErrorKind::NotFound {
+                    Ok(None)
+                } else {
+                    Err(fault)
+                }
+            }
+        }
+    }
+
+    fn add(&mut self, number: u32, file: File) -> io::Result<Option<usize>>
+        ensures { IfOk result (λ found. IfSome found (λ place. place < vec_len self.new.files)) }
+    {
+        let place = self.files.len();
+        self.files.push(OpenedFile {
+            number,
+            file,
+            is_settled: false,
+        })?;
+        Ok(Some(place))
+    }
+
+    // At the first call the folder is made where it is missing, and locked. What stands in the way is told once.
+    fn enter<R: Files<File = File> + AllocGlobal + io::Eprint>(
+        &mut self,
+        rt: &R,
+    ) -> io::Result<()> {
+        match self.state {
+            State::Usable => Ok(()),
+            State::Broken => Err(io::Error::from(ErrorKind::Other)),
+            State::Untouched => {
+                self.state = State::Broken;
+                let path = self.path.as_str();
+                match lock_folder(rt, path) {
+                    Ok(file) => {
+                        self.state = State::Usable;
+                        self.add(0, file)?;
+                        Ok(())
+                    }
+                    Err(TryLockError::WouldBlock) => {
+                        rt.eprintln(format!(in rt.alloc();
+                            "bpdesk: the vault {path} is in use by another process"
+                        )?)?;
+                        Err(io::Error::from(ErrorKind::WouldBlock))
+                    }
+                    Err(TryLockError::Error(fault)) => {
+                        rt.eprintln(format!(in rt.alloc();
+                            "bpdesk: cannot open {path}: {fault}"
+                        )?)?;
+                        Err(fault)
+                    }
+                }
+            }
         }
     }
 }
 
-fn opened<R: Files + AllocGlobal>(rt: &R, folder: &str, file: u32) -> io::Result<R::File> {
-    let path = format!(in rt.alloc(); "{folder}/{file}.nbv")?;
+// One process at a time: file 0 is locked for as long as it is open.
+fn lock_folder<R: Files<File = File> + AllocGlobal>(
+    rt: &R,
+    path: &str,
+) -> Result<File, TryLockError> {
+    let file = match make_folder(rt, path) {
+        Ok(()) => match open_file(rt, path, 0, true) {
+            Ok(file) => file,
+            Err(fault) => return Err(TryLockError::Error(fault)),
+        },
+        Err(fault) => return Err(TryLockError::Error(fault)),
+    };
+    file.try_lock()?;
+    Ok(file)
+}
+
+fn make_folder<R: Files<File = File>>(rt: &R, path: &str) -> io::Result<()> {
+    if fs::metadata(rt, path).is_ok() {
+        return Ok(());
+    }
+    fs::create_dir_all(rt, path)?;
+    match Path::new(path).parent() {
+        Some(parent) => match parent.to_str() {
+            Some(text) if !text.is_empty() => sync_folder(rt, text),
+            _ => sync_folder(rt, "."),
+        },
+        None => Ok(()),
+    }
+}
+
+fn sync_folder<R: Files<File = File>>(rt: &R, path: &str) -> io::Result<()> {
+    fs::open(rt, path)?.sync_all()
+}
+
+fn open_file<R: Files<File = File> + AllocGlobal>(
+    rt: &R,
+    folder: &str,
+    number: u32,
+    is_made: bool,
+) -> io::Result<File> {
+    let path = format!(in rt.alloc(); "{folder}/{number}.nbv")?;
     OpenOptions::new()
         .read(true)
         .write(true)
-        .create(true)
+        .create(is_made)
         .open(rt, path.as_str())
 }
 
-fn read_at<R: Files + AllocGlobal>(
-    rt: &R,
-    folder: &str,
-    file: u32,
-    at: u64,
-    into: &mut [u8],
-) -> io::Result<usize>
+// Reads again where a signal interrupts the call.
+fn read_some(file: &File, at: u64, into: &mut [u8]) -> io::Result<usize>
     ensures { IfOk result (λ n. n ≤ length into.new) }
 {
-    let mut opened = opened(rt, folder, file)?;
-    opened.seek(SeekFrom::Start(at))?;
-    opened.read(into)
-}
-
-fn write_all_at<R: Files + AllocGlobal>(
-    rt: &R,
-    folder: &str,
-    file: u32,
-    at: u64,
-    bytes: &[u8],
-) -> io::Result<()> {
-    let mut opened = opened(rt, folder, file)?;
-    opened.seek(SeekFrom::Start(at))?;
-    opened.write_all(bytes)
-}
-
-fn length_of<R: Files + AllocGlobal>(rt: &R, folder: &str, file: u32) -> io::Result<u64> {
-    Ok(opened(rt, folder, file)?.metadata()?.len())
-}
-
-impl<R: Files + Print + AllocGlobal + Drop> Vault for FolderMachine<R> {
-    ghost use Rattle.vault_disk.specs.Steps.{silent};
-
-    ghost disk = { λ m. silent m.faults m.send_faults };
-
-    ghost reads_count = { λ m told. absurd told };
-
-    ghost counts_now = { λ m t c told le left. absurd told };
-
-    ghost only_now = { λ m c b told left. absurd told };
-
-    fn read(&mut self, file: u32, at: u64, into: &mut [u8]) -> Result<usize, Failed> {
-        match read_at(&self.rt, &self.folder, file, at, into) {
-            Ok(count) => {
-                if (count as u64) < u64::MAX - at {
-                    Ok(count)
-                } else {
-                    Err(raise(&mut self.faults))
+    for _turn in 0..u64::MAX {
+        match file.read_at(into, at) {
+            Ok(count) => return Ok(count),
+            Err(fault) => {
+                if fault.kind() != ErrorKind::Interrupted {
+                    return Err(fault);
                 }
             }
-            Err(_) => Err(raise(&mut self.faults)),
         }
     }
-
-    fn write_at(&mut self, file: u32, at: u64, bytes: &[u8]) -> Result<(), Failed> {
-        match write_all_at(&self.rt, &self.folder, file, at, bytes) {
-            Ok(()) => Ok(()),
-            Err(_) => Err(raise(&mut self.faults)),
-        }
-    }
-
-    fn cut(&mut self, file: u32, length: u64) -> Result<(), Failed> {
-        match cut_to(&self.rt, &self.folder, file, length) {
-            Ok(()) => Ok(()),
-            Err(_) => Err(raise(&mut self.faults)),
-        }
-    }
-
-    fn sync(&mut self, file: u32) -> Result<(), Failed> {
-        match sync_file(&self.rt, &self.folder, file) {
-            Ok(()) => Ok(()),
-            Err(_) => Err(raise(&mut self.faults)),
-        }
-    }
-
-    fn length(&mut self, file: u32) -> Result<u64, Failed> {
-        match length_of(&self.rt, &self.folder, file) {
-            Ok(length) => Ok(length),
-            Err(_) => Err(raise(&mut self.faults)),
-        }
-    }
+    Err(io::Error::from(ErrorKind::Interrupted))
 }
 
-impl<R: Files + Print + AllocGlobal + Drop> Machine for FolderMachine<R> {
-    fn send(&mut self, bytes: &[u8]) -> Result<(), Failed> {
-        match io::writer(&self.rt).write_all(bytes) {
-            Ok(()) => Ok(()),
-            Err(_) => Err(raise(&mut self.send_faults)),
-        }
+// A write of nothing past the end makes the file longer too.
+fn write_over(file: &File, at: u64, bytes: &[u8]) -> io::Result<()> {
+    if bytes.is_empty() && file.metadata()?.len() < at {
+        return file.set_len(at);
     }
-}
-
-fn cut_to<R: Files + AllocGlobal>(rt: &R, folder: &str, file: u32, length: u64) -> io::Result<()> {
-    opened(rt, folder, file)?.set_len(length)
-}
-
-fn sync_file<R: Files + AllocGlobal>(rt: &R, folder: &str, file: u32) -> io::Result<()> {
-    opened(rt, folder, file)?.sync_all()
-}
-
-fn raise(faults: &mut u64) -> Failed
-    ensures { Rose faults.old faults.new × (faults.old ≤ faults.new) }
-{
-    *faults = faults.saturating_add(1);
-    Failed
+    file.write_all_at(bytes, at)
 }

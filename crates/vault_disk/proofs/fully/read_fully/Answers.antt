@@ -1,4 +1,4 @@
-use Rattle.std.proofs.Common.{rules, arith, ◌≤◌, ◌+◌, length}
+use Rattle.std.proofs.Common.{rules, arith}
 use Rattle.vault_disk.proofs.Moments.{same_on}
 use Rattle.vault_disk.proofs.ReadOn.{filled_on, within_part, looked_on}
 use Rattle.vault_disk.proofs.fully.read_fully.Goals as goal

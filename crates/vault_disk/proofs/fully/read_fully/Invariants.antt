@@ -1,4 +1,4 @@
-use Rattle.std.proofs.Common.{length, ◌-◌, ◌≡◌, ◌≤◌, ◌+◌, ◌<◌, ◌^◌}
+use Rattle.std.proofs.Common.{length, ◌-◌, ◌≤◌, ◌+◌, ◌<◌, ◌^◌}
 use Rattle.vault_disk.specs.Disk.{IsSame}
 use Rattle.vault_disk.specs.Steps.{LookedAround}
 use Rattle.vault_disk.proofs.ReadOn.{Filled}

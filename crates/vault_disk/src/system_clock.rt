@@ -1,0 +1,48 @@
+use crate::faults::raise;
+use crate::{Clock, Failed};
+use std::io;
+use std::io::ErrorKind;
+use std::time::{Clock as Time, SystemTime, UNIX_EPOCH};
+
+const LAST_MOMENT: u64 = 250_000_000_000;
+
+/// The clock of the system. It tells nothing, and counts its faults. A clock that stands before 1970 or past moment
+/// 250,000,000,000 is a fault.
+#[derive(Drop)]
+pub struct SystemClock<R: Time + Drop> {
+    rt: R,
+    faults: u64,
+}
+
+impl<R: Time + Drop> SystemClock<R> {
+    /// The clock of this runtime.
+    pub fn new(rt: R) -> Self {
+        SystemClock { rt, faults: 0 }
+    }
+}
+
+impl<R: Time + Drop> Clock for SystemClock<R> {
+    ghost use Rattle.vault_disk.specs.Ticks.{silent_ticks};
+
+    ghost ticks = { λ c. silent_ticks c.faults };
+
+    fn now(&mut self) -> Result<u64, Failed> {
+        match seconds(&self.rt) {
+            Ok(moment) => {
+                if moment <= LAST_MOMENT {
+                    Ok(moment)
+                } else {
+                    Err(raise(&mut self.faults))
+                }
+            }
+            Err(_) => Err(raise(&mut self.faults)),
+        }
+    }
+}
+
+fn seconds(rt: &impl Time) -> io::Result<u64> {
+    match SystemTime::now(rt)?.duration_since(UNIX_EPOCH) {
+        Ok(passed) => Ok(passed.as_secs()),
+        Err(_) => Err(io::Error::from(ErrorKind::InvalidData)),
+    }
+}
