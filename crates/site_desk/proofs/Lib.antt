@@ -1,1 +1,3 @@
 pub mod ClientLemmas
+pub mod ReplayLemmas
+pub mod Standings

@@ -1,16 +1,26 @@
 -- What contracts see of a desk.
-use Rattle.std.specs.Prelude.{◌≡◌, ◌≤◌, ℕ, Bool, true, List, [], ◌∷◌, Result, Ok, Err}
+use Rattle.std.specs.Prelude.{◌≡◌, ◌≤◌, ℕ, Bool, true, List, [], ◌∷◌, codes, Result, Ok, Err}
 use Rattle.site_types.specs.declared.id.BackupId.{BackupId}
 use Rattle.site_types.specs.declared.answer.Answer.{Answer}
-use Rattle.site_types.specs.declared.answer.Answer.TheVariants.{Done, OutOfMemory, DiskFault}
+use Rattle.site_types.specs.declared.answer.Answer.TheVariants.{Done, OutOfMemory, TooMany, DiskFault}
 use Rattle.site_types.specs.declared.request.Request.{Request}
+use Rattle.desk_model.specs.Limits.{last_moment}
 use Rattle.vault_disk.specs.Disk.{Disk}
+use Rattle.pool_journal.specs.declared.fault.JournalFault.{JournalFault}
+use Rattle.pool_journal.specs.declared.fault.JournalFault.TheVariants as journal
 use Rattle.pool_journal.specs.Records.{Found}
 use Rattle.pool_journal.specs.Stops.{AtRest}
 use Rattle.desk_model.specs.Site.{Client, initial_site, client_named}
 use Rattle.desk_model.specs.State.{State, Image, Stored, initial, has_image}
 use Rattle.desk_model.specs.Step.{step, last_of}
-use Rattle.site_desk.specs.Stands.{applied, opened}
+use Rattle.site_types.specs.declared.image.Kind.TheVariants.{Full}
+use Rattle.site_types.specs.declared.image.Base.TheVariants as base
+use Rattle.pool_journal.specs.declared.entry.Entry.{Entry}
+use Rattle.pool_journal.specs.declared.entry.Entry.TheVariants as entry
+use Rattle.site_desk.specs.Stands.{applied, opened, Standing, Between}
+use Rattle.site_desk.specs.declared.record.Recorded.{Recorded}
+use Rattle.site_desk.specs.declared.record.Recorded.TheVariants.{Written}
+use Rattle.site_desk.specs.Clients.{ByName}
 
 -- the built-in site with these clients, images and pieces, without jobs
 abbrev pub built : List Client → List Image → List Stored → State
@@ -37,13 +47,18 @@ pub record DeskValue (V : Type 0) : Type 0 where
 abbrev pub TimesBelow : List Client → List Image → Type 0
 TimesBelow clients images = (id : BackupId) → has_image id images ≡ true → id.time ≤ last_of (client_named id.client clients)
 
--- the journal is at rest, and its records make the state with these clients
-pub record Kept (disk : Disk) (end : ℕ) (clients : List Client) : Type 0 where
+-- the journal is at rest, and its records make this state
+pub record KeptState (disk : Disk) (end : ℕ) (state : State) : Type 0 where
   pub records : List Found
+  pub rest : AtRest disk end records
+  pub made : applied initial records ≡ Ok state
+
+-- they make the state with these clients
+pub record Kept (disk : Disk) (end : ℕ) (clients : List Client) : Type 0 where
   pub images : List Image
   pub stored : List Stored
-  pub rest : AtRest disk end records
-  pub made : applied initial records ≡ Ok (built clients images stored)
+  pub kept : KeptState disk end (built clients images stored)
+  pub by_name : ByName clients
   pub below : TimesBelow clients images
 
 -- a step's answer is the model's, or want of memory, or a fault of the disk where the model refuses nothing
@@ -72,3 +87,34 @@ abbrev pub IsRefusal : Answer → Type 0
 IsRefusal (Done body) = ⊥
 IsRefusal DiskFault = ⊥
 IsRefusal answer = Unit {0}
+
+-- the record of a backup under the built-in policy
+abbrev pub backup_entry : List ℕ → ℕ → ℕ → ℕ → Entry
+backup_entry client time moment length = entry.WholeImage (record {
+  id = record { client = client; time = time };
+  policy = codes "adhoc";
+  schedule = codes "manual";
+  kind = Full;
+  base = base.None;
+  lifecycle = codes "basic";
+  version = 1;
+  completed = moment;
+  length = length;
+})
+
+-- a record was written that takes one state to another
+pub record Commits (s t : State) (old new : Disk) (end : ℕ) (result : Recorded) : Type 0 where
+  pub between : Between s t old new
+  pub kept : result ≡ Written → KeptState new end t
+  pub standing : result ≡ Written → Standing new t
+
+-- too late for an image's time, or no memory to say so
+abbrev pub IsTooLate : ℕ → Answer → Type 0
+IsTooLate last OutOfMemory = Unit {0}
+IsTooLate last answer = answer ≡ TooMany (codes "time") last last_moment
+
+-- a fault of an opening: no vault exactly where the image stands for nothing, with the offset of that
+abbrev pub IsFaultOf : Result State ℕ → JournalFault → Type 0
+IsFaultOf found journal.NoMemory = Unit {0}
+IsFaultOf found journal.DiskFault = Unit {0}
+IsFaultOf found (journal.NotAVault offset) = found ≡ Err offset

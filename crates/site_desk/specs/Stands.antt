@@ -33,6 +33,9 @@ whole_image s w bytes = record { entry = sealed_entry s.site w.id w.policy w.sch
 abbrev pub whole_unit : State → WholeImage → List ℕ
 whole_unit s w = unit_of (operations_of (version_named w.lifecycle w.version s.site.lifecycles))
 
+abbrev pub entry_fits : State → Entry → Bool
+entry_fits s (entry.WholeImage w) = image_fits s w
+
 -- the state after one record, where it fits
 abbrev pub apply_entry : State → Entry → List ℕ → Option State
 apply_entry s (entry.WholeImage w) bytes = if image_fits s w then Some (sealed (whole_image s w bytes) (whole_unit s w) s) else None

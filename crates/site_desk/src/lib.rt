@@ -1,5 +1,10 @@
 //! The desk over a vault: requests are answered as the model answers them, and what was answered outlives a stop.
 #![tactic(auto)]
 
+mod backup;
 mod client;
+mod desk;
+mod record;
 mod replay;
+
+pub use desk::Desk;

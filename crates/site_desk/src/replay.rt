@@ -5,9 +5,9 @@ ghost use Rattle.pool_journal.specs.Records.{Found, placed};
 ghost use Rattle.desk_model.specs.Limits.{last_moment};
 ghost use Rattle.desk_model.specs.Site.{initial_site, policy_named, raise_last, version_named};
 ghost use Rattle.desk_model.specs.State.{Image, Stored, same_id, has_image};
-ghost use Rattle.site_desk.specs.Stands.{is_base_below, image_fits};
+ghost use Rattle.site_desk.specs.Stands.{is_base_below, image_fits, entry_fits};
 ghost use Rattle.site_desk.specs.Desk.{built};
-ghost use Rattle.site_desk.specs.Opening.{id_in, is_recorded, Remembers, IsReplayed};
+ghost use Rattle.site_desk.specs.Opening.{image_in, id_in, is_recorded, Remembers, IsReplayed};
 
 use crate::client::{Client, last_of, make_room, place_of, raise_at};
 use pool_journal::{Entry, Placed, WholeImage};
@@ -22,12 +22,18 @@ fn is_same_id(a: &BackupId, b: &BackupId) -> bool
     a.client.bytes() == b.client.bytes() && a.time == b.time
 }
 
+fn image_in(entry: &Entry) -> &WholeImage
+    ensures { result.now ≡ image_in entry.now }
+{
+    match entry {
+        Entry::WholeImage(image) => image,
+    }
+}
+
 fn id_in(entry: &Entry) -> &BackupId
     ensures { result.now ≡ id_in entry.now }
 {
-    match entry {
-        Entry::WholeImage(image) => &image.id,
-    }
+    &image_in(entry).id
 }
 
 fn is_recorded(id: &BackupId, entries: &[Placed]) -> bool
@@ -71,10 +77,16 @@ fn is_in_time(image: &WholeImage) -> bool
         && image.completed <= LAST_MOMENT
 }
 
-fn fits(clients: &[Client], earlier: &[Placed], image: &WholeImage) -> bool
+fn image_fits(clients: &[Client], earlier: &[Placed], image: &WholeImage) -> bool
     ensures { (images : List Image) (stored : List Stored) → Remembers clients.now earlier.now images → result ≡ image_fits (built clients.now images stored) image.now }
 {
     is_new(clients, earlier, &image.id) && is_built_in(image) && is_in_time(image)
+}
+
+fn fits(clients: &[Client], earlier: &[Placed], entry: &Entry) -> bool
+    ensures { (images : List Image) (stored : List Stored) → Remembers clients.now earlier.now images → result ≡ entry_fits (built clients.now images stored) entry.now }
+{
+    image_fits(clients, earlier, image_in(entry))
 }
 
 /// What entries make.
@@ -85,15 +97,17 @@ pub struct Replayed {
     pub bad: Option<u64>,
 }
 
-fn record_image(
+// Raises the last id time of the entry's client.
+fn record_entry(
     alloc: Global,
     clients: &mut Vec<Client>,
-    image: &WholeImage,
+    entry: &Entry,
 ) -> Result<(), NoMemory>
-    ensures { OnOk result (clients.new.items ≡ raise_last image.now.id.client image.now.id.time clients.old.items) }
+    ensures { OnOk result (clients.new.items ≡ raise_last (id_in entry.now).client (id_in entry.now).time clients.old.items) }
 {
-    let place = place_of(clients, image.id.client.bytes());
-    let client = Client::new(image.id.client.copy(alloc)?, image.id.time);
+    let id = id_in(entry);
+    let place = place_of(clients, id.client.bytes());
+    let client = Client::new(id.client.copy(alloc)?, id.time);
     make_room(clients)?;
     raise_at(clients, place, client);
     Ok(())
@@ -105,14 +119,13 @@ pub fn replay(alloc: Global, entries: &[Placed]) -> Result<Replayed, NoMemory>
 {
     let mut clients = Vec::new(alloc);
     for (index, placed) in entries.iter().enumerate() {
-        let Entry::WholeImage(image) = &placed.entry;
-        if !fits(&clients, &entries[..index], image) {
+        if !fits(&clients, &entries[..index], &placed.entry) {
             return Ok(Replayed {
                 clients,
                 bad: Some(placed.at),
             });
         }
-        record_image(alloc, &mut clients, image)?;
+        record_entry(alloc, &mut clients, &placed.entry)?;
     }
     Ok(Replayed { clients, bad: None })
 }

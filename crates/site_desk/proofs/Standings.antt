@@ -1,0 +1,69 @@
+-- What the journal's promises say of the desk's state.
+use Rattle.std.proofs.Common.{◌≡◌, ◌⊎◌, inl, inr, ⊎_elim, ℕ, List, [], ◌∷◌, ◌++◌, Some, None, Ok, Err, refl, sym, ◌∙◌, ap, subst}
+use Rattle.std.specs.Prelude.{Option, Result}
+use Rattle.std.specs.Result.{result_ok}
+use Rattle.vault_disk.specs.Disk.{Disk, Image as DiskImage}
+use Rattle.vault_disk.specs.Steps.{Rests}
+use Rattle.vault_disk.proofs.Moments.{weaker, started}
+use Rattle.pool_journal.specs.Entries.{Record}
+use Rattle.pool_journal.specs.Records.{Found, Reading, found, reading, Holds}
+use Rattle.pool_journal.specs.Stops.{FromBefore, with_one, IsBeforeOrAfter, Stops, Appending, Appended, OpenStops, SameReading}
+use Rattle.desk_model.specs.State.{State, initial, durable}
+use Rattle.site_desk.specs.Stands.{apply, applied_from, applied, stood, opened, stands, Standing, StandsFor, Between, Opens}
+use Rattle.site_desk.specs.Desk.{KeptState}
+
+applied-push : (at : ℕ) (o : Option State) (fs : List Found) (end : ℕ) (r : Record) (s t : State) → applied_from at o fs ≡ Ok s → apply s r ≡ Some t → applied_from at o (with_one fs end r) ≡ Ok t
+applied-push at None fs end r s t is fits = absurd (cc is)
+applied-push at (Some u) [] end r s t is fits =
+    let same : u ≡ s = cc is in
+    ap (λ (v : State). applied_from end (apply v r) []) same ∙ ap (λ (o : Option State). applied_from end o []) fits
+applied-push at (Some u) (f ∷ fs) end r s t is fits = applied-push f.at (apply u f.is) fs end r s t is fits
+
+-- what reads as these records stands for the state that they make
+pub stands_by : (c : DiskImage) (fs : List Found) (s : State) → reading (c 0) ≡ found fs → applied initial fs ≡ Ok s → stands c ≡ Some s
+stands_by c fs s reads made = ap (λ (r : Reading). result_ok (stood r)) reads ∙ ap result_ok made
+
+pub standing : (d : Disk) (end : ℕ) (s : State) → KeptState d end s → s ≡ durable s → Standing d s
+standing d end s kept is = record { each = λ c left. stands_by c kept.records s (ap reading (kept.rest.durable.only c left) ∙ kept.rest.reads) kept.made ∙ ap Some is }
+
+pub nothing_done : (s t : State) (d : Disk) → Standing d s → Between s t d d
+nothing_done s t d standing_now = record { left = λ c left. inl (standing_now.each c left); during = started d (λ c b. StandsFor s t c × (b ≡ d.sent)) }
+
+-- a record that takes the state to another one was added
+module _ (s t : State) (r : Record) (old new : Disk) (end : ℕ) (kept : KeptState old end s) (s_is : s ≡ durable s) (t_is : t ≡ durable t) (fits : apply s r ≡ Some t) where
+  made : applied initial (with_one kept.records end r) ≡ Ok t
+  made = applied-push 0 (Some initial) kept.records end r s t kept.made fits
+
+  pub committed : Stops kept.records end r old new → Between s t old new
+  committed stops =
+      let either : (c : DiskImage) → FromBefore old (IsBeforeOrAfter kept.records end r) c → StandsFor s t c = λ c from. ⊎_elim
+      (λ before. inl (stands_by c kept.records s before kept.made ∙ ap Some s_is))
+      (λ after. inr (stands_by c (with_one kept.records end r) t after made ∙ ap Some t_is))
+      from.inside in
+      record {
+        left = λ c left. either c (stops.left c left);
+        during = weaker old new (Appending kept.records end r old) (λ c b. StandsFor s t c × (b ≡ old.sent)) (λ c b left. (either c left.0, left.1)) stops.during;
+      }
+
+  pub kept_on : (end' : ℕ) → Appended kept.records end r old new end' → KeptState new end' t
+  kept_on end' appended = record { records = with_one kept.records end r; rest = appended.rest; made = made }
+
+pub still_kept : (old new : Disk) (end : ℕ) (s : State) → Rests old new → KeptState old end s → KeptState new end s
+still_kept old new end s rests kept = record {
+  records = kept.records;
+  rest = record {
+    holds = subst (λ (l : List ℕ). Holds l kept.records end) (sym (rests.seen 0)) kept.rest.holds;
+    reads = ap reading (rests.seen 0) ∙ kept.rest.reads;
+    durable = record { only = λ c left. kept.rest.durable.only c (rests.left c left) ∙ sym (rests.seen 0) };
+    short = kept.rest.short;
+  };
+  made = kept.made;
+}
+
+pub opens : (old new : Disk) → OpenStops old new → Opens old new
+opens old new stops =
+    let same : (c : DiskImage) → old.may_leave c ⊎ SameReading old c → old.may_leave c ⊎ (stands c ≡ stands old.seen) = λ c. ⊎_elim (λ left. inl left) (λ from. inr (ap (λ (r : Reading). result_ok (stood r)) from.inside)) in
+    record {
+      left = λ c left. same c (stops.left c left);
+      during = weaker old new (λ c b. (old.may_leave c ⊎ SameReading old c) × (b ≡ old.sent)) (λ c b. (old.may_leave c ⊎ (stands c ≡ stands old.seen)) × (b ≡ old.sent)) (λ c b left. (same c left.0, left.1)) stops.during;
+    }
