@@ -1,0 +1,57 @@
+use Rattle.std.proofs.Common.{◌≡◌, ◌∙◌, ap, sym, subst, refl, List, ℕ}
+use Rattle.desk_model.specs.Site.{Client, client_named}
+use Rattle.desk_model.specs.Step.{step, last_of}
+use Rattle.site_types.specs.declared.request.Request.TheVariants.{Backup}
+use Rattle.site_desk.specs.Stands.{Standing, Between}
+use Rattle.site_desk.specs.Desk.{DeskValue, desk_state}
+use Rattle.site_desk.proofs.Sealing.{BetweenSteps, sealed_now, either_left}
+use Rattle.site_desk.proofs.desk.Desk.backup.Goals as goal
+
+pub invariant_of-self-in-Written : goal.invariant_of-self-in-Written
+invariant_of-self-in-Written g c stopped told' =
+    let told = c.write_record.ensures.same.told told' in
+    let kept = c.self.invariant stopped told in
+    let last = c.last_of-last.ensures ∙ (λ i. last_of (client_named (c.bytes.ensures.bytes i) (c.deref.ensures.value i))) in
+    (sealed_now c.args.client.now c.args.payload.now c.args.moment _ _ _ _ _ _ _ _ _ _ kept last c.saturating_add.ensures c.max-time.ensures c.if-time-gt-LAST_MOMENT.false c.requires.moment c.in-Ok.ensures.entry
+    (λ s t held s_is t_is fits. c.write_record.ensures.commits s t told held s_is t_is fits) c.raise_at.new.clients.items _ _ _ c.in-Written.is c.raise_at.ensures
+    (ap (λ (x : Client). x.name) c.in-Ok.ensures.client) (ap (λ (x : Client). x.last) c.in-Ok.ensures.client) c.in-Ok-make_room.ensures.same).kept
+
+pub returns-in-Written-clause-moves : goal.returns-in-Written-clause-moves
+returns-in-Written-clause-moves g c told_now =
+    let is = c.self.view_is in
+    let told = subst (λ (d : DeskValue _). (g.V.Vault.disk d.vault).tells) (sym is) told_now in
+    let kept = c.self.invariant (ap (λ (d : DeskValue _). d.stopped) is ∙ c.requires.running) told in
+    let last = c.last_of-last.ensures ∙ (λ i. last_of (client_named (c.bytes.ensures.bytes i) (c.deref.ensures.value i))) in
+    rw (← is) (sealed_now c.args.client.now c.args.payload.now c.args.moment _ _ _ _ _ _ _ _ _ _ kept last c.saturating_add.ensures c.max-time.ensures c.if-time-gt-LAST_MOMENT.false c.requires.moment c.in-Ok.ensures.entry
+    (λ s t held s_is t_is fits. c.write_record.ensures.commits s t told held s_is t_is fits) c.raise_at.new.clients.items _ _ _ c.in-Written.is c.raise_at.ensures
+    (ap (λ (x : Client). x.name) c.in-Ok.ensures.client) (ap (λ (x : Client). x.last) c.in-Ok.ensures.client) c.in-Ok-make_room.ensures.same).moves
+
+pub returns-in-Written-clause-standing : goal.returns-in-Written-clause-standing
+returns-in-Written-clause-standing g c told_now ne =
+    let is = c.self.view_is in
+    let told = subst (λ (d : DeskValue _). (g.V.Vault.disk d.vault).tells) (sym is) told_now in
+    let kept = c.self.invariant (ap (λ (d : DeskValue _). d.stopped) is ∙ c.requires.running) told in
+    let last = c.last_of-last.ensures ∙ (λ i. last_of (client_named (c.bytes.ensures.bytes i) (c.deref.ensures.value i))) in
+    (sealed_now c.args.client.now c.args.payload.now c.args.moment _ _ _ _ _ _ _ _ _ _ kept last c.saturating_add.ensures c.max-time.ensures c.if-time-gt-LAST_MOMENT.false c.requires.moment c.in-Ok.ensures.entry
+    (λ s t held s_is t_is fits. c.write_record.ensures.commits s t told held s_is t_is fits) c.raise_at.new.clients.items _ _ _ c.in-Written.is c.raise_at.ensures
+    (ap (λ (x : Client). x.name) c.in-Ok.ensures.client) (ap (λ (x : Client). x.last) c.in-Ok.ensures.client) c.in-Ok-make_room.ensures.same).standing
+
+pub returns-in-Written-clause-stops : goal.returns-in-Written-clause-stops
+returns-in-Written-clause-stops g c told_now =
+    let is = c.self.view_is in
+    let told = subst (λ (d : DeskValue _). (g.V.Vault.disk d.vault).tells) (sym is) told_now in
+    let kept = c.self.invariant (ap (λ (d : DeskValue _). d.stopped) is ∙ c.requires.running) told in
+    let last = c.last_of-last.ensures ∙ (λ i. last_of (client_named (c.bytes.ensures.bytes i) (c.deref.ensures.value i))) in
+    subst (λ (d : DeskValue _). BetweenSteps d.state c.args.client.now c.args.payload.now c.args.moment (g.V.Vault.disk d.vault) (g.V.Vault.disk c.write_record.new.vault)) is
+    (either_left c.args.client.now c.args.payload.now c.args.moment _ _ _ _ _ _ _ _ _ _ kept last c.saturating_add.ensures c.max-time.ensures c.if-time-gt-LAST_MOMENT.false c.requires.moment c.in-Ok.ensures.entry
+    (λ s t held s_is t_is fits. c.write_record.ensures.commits s t told held s_is t_is fits))
+
+pub returns-clause-stops : goal.returns-clause-stops
+returns-clause-stops g c told_now =
+    let is = c.self.view_is in
+    let told = subst (λ (d : DeskValue _). (g.V.Vault.disk d.vault).tells) (sym is) told_now in
+    let kept = c.self.invariant (ap (λ (d : DeskValue _). d.stopped) is ∙ c.requires.running) told in
+    let last = c.last_of-last.ensures ∙ (λ i. last_of (client_named (c.bytes.ensures.bytes i) (c.deref.ensures.value i))) in
+    subst (λ (d : DeskValue _). BetweenSteps d.state c.args.client.now c.args.payload.now c.args.moment (g.V.Vault.disk d.vault) (g.V.Vault.disk c.write_record.new.vault)) is
+    (either_left c.args.client.now c.args.payload.now c.args.moment _ _ _ _ _ _ _ _ _ _ kept last c.saturating_add.ensures c.max-time.ensures c.if-time-gt-LAST_MOMENT.false c.requires.moment c.in-Ok.ensures.entry
+    (λ s t held s_is t_is fits. c.write_record.ensures.commits s t told held s_is t_is fits))
