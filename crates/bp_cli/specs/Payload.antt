@@ -1,0 +1,17 @@
+-- Taking a payload from a source.
+use Rattle.std.specs.Prelude.{◌≡◌, ℕ, ◌<◌, ◌≤◌, List, [], length}
+use Rattle.desk_model.specs.Limits.{payload_limit}
+use Rattle.bp_cli.specs.declared.payload.Taken.{Taken}
+use Rattle.bp_cli.specs.declared.payload.Taken.TheVariants.{Whole, TooLong, Failed, NoMemory}
+
+-- all that was left was taken, or it is more than a payload may have
+abbrev pub IsTaken : List ℕ → Taken → List ℕ → Type 0
+IsTaken left (Whole bytes) rest = (bytes ≡ left) × (rest ≡ [])
+IsTaken left TooLong rest = payload_limit < length left
+IsTaken left Failed rest = Unit {0}
+IsTaken left NoMemory rest = Unit {0}
+
+-- a payload that was taken isn't longer than it may be
+abbrev pub IsShort : Taken → Type 0
+IsShort (Whole bytes) = length bytes ≤ payload_limit
+IsShort _ = Unit {0}

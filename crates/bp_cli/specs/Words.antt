@@ -1,0 +1,38 @@
+-- The words of a single request: a moment, where it names one, and the request.
+use Rattle.std.specs.Prelude.{◌≡◌, ℕ, ◌+◌, Bool, false, ◌==◌, if◌then◌else◌, List, [], ◌∷◌, drop, Option, Some, None, Result, Ok, Err}
+use Rattle.site_types.specs.Numbers.{number_up_to}
+use Rattle.site_types.specs.Requests.{read_words}
+use Rattle.site_types.specs.declared.request.Request.{Request}
+use Rattle.site_types.specs.declared.request.WordFault.{WordFault}
+use Rattle.site_types.specs.declared.request.WordFault.TheVariants.{Bad, NoMemory}
+use Rattle.desk_model.specs.Limits.{last_moment}
+use Rattle.bp_cli.specs.declared.words.Spoken.{Spoken}
+
+-- a word that begins with @
+abbrev pub is_moment : List ℕ → Bool
+is_moment [] = false
+is_moment (c ∷ cs) = c == 64
+
+-- the moment that such a word names
+abbrev pub moment_of : List ℕ → Option ℕ
+moment_of word = number_up_to last_moment (drop 1 word)
+
+abbrev pub at_moment : Option ℕ → Result Request ℕ → Result Spoken ℕ
+at_moment None read = Err 0
+at_moment (Some moment) (Ok request) = Ok (record { moment = Some moment; request = request })
+at_moment (Some moment) (Err index) = Err (index + 1)
+
+abbrev pub without_moment : Result Request ℕ → Result Spoken ℕ
+without_moment (Ok request) = Ok (record { moment = None; request = request })
+without_moment (Err index) = Err index
+
+-- what the words ask for, or the index of the first bad one
+abbrev pub spoken : List (List ℕ) → Result Spoken ℕ
+spoken [] = Err 0
+spoken (word ∷ words) = if is_moment word then at_moment (moment_of word) (read_words words) else without_moment (read_words (word ∷ words))
+
+-- a result of reading words is what they ask for, or want of memory
+abbrev pub IsSpoken : Result Spoken WordFault → Result Spoken ℕ → Type 0
+IsSpoken (Ok said) read = read ≡ Ok said
+IsSpoken (Err (Bad index)) read = read ≡ Err index
+IsSpoken (Err NoMemory) read = Unit {0}

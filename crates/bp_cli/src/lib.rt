@@ -1,0 +1,5 @@
+//! The runs of the program: words and a source in, a reply and a status out.
+#![tactic(auto)]
+
+mod payload;
+mod words;

@@ -1,0 +1,69 @@
+// The payload of a single request: the source to its end.
+ghost use Rattle.std.specs.Prelude.{◌≡◌, ◌≤◌, ◌<◌, ◌++◌, [], length, IfOk, vec_len};
+ghost use Rattle.vault_disk.specs.Input.{IsSameInput};
+ghost use Rattle.vault_disk.specs.Steps.{Rose};
+ghost use Rattle.desk_model.specs.Limits.{payload_limit};
+ghost use Rattle.bp_cli.specs.Payload.{IsTaken, IsShort};
+
+use site_types::{NoMemory, Text};
+use std::alloc::Global;
+use vault_disk::Source;
+
+const PAYLOAD_LIMIT: usize = 67_108_864;
+
+const BLOCK: usize = 65_536;
+
+/// What became of a payload.
+#[derive(Drop)]
+pub enum Taken {
+    Whole(Text),
+    /// There is more than a payload may have.
+    TooLong,
+    /// A read failed.
+    Failed,
+    NoMemory,
+}
+
+fn take_blocks<S: Source>(source: &mut S, bytes: Vec<u8>, block: &mut [u8]) -> Taken
+    requires room { 0 < length block.old }
+    requires new { bytes.items ≡ [] }
+    ensures taken { (S.input source.old).tells → IsTaken (S.input source.old).left result (S.input source.new).left }
+    ensures short { IsShort result }
+    ensures same { IsSameInput (S.input source.old) (S.input source.new) }
+    ensures failed { result ≡ Taken.Failed → Rose (S.input source.old).faults (S.input source.new).faults }
+{
+    let mut bytes = bytes;
+    loop {
+        let Ok(count) = source.read(block) else {
+            return Taken::Failed;
+        };
+        if count == 0 {
+            return Taken::Whole(Text::from_vec(bytes));
+        }
+        if count > PAYLOAD_LIMIT - bytes.len() {
+            return Taken::TooLong;
+        }
+        if bytes.extend_from_slice(&block[..count]).is_err() {
+            return Taken::NoMemory;
+        }
+    }
+}
+
+fn zeros(alloc: Global, count: usize) -> Result<Vec<u8>, NoMemory>
+    ensures { IfOk result (λ v. length v.items ≡ count) }
+{
+    vec![in alloc; 0u8; count]
+}
+
+/// Takes all that is left of a source.
+pub fn take_payload<S: Source>(alloc: Global, source: &mut S) -> Taken
+    ensures taken { (S.input source.old).tells → IsTaken (S.input source.old).left result (S.input source.new).left }
+    ensures short { IsShort result }
+    ensures same { IsSameInput (S.input source.old) (S.input source.new) }
+    ensures failed { result ≡ Taken.Failed → Rose (S.input source.old).faults (S.input source.new).faults }
+{
+    match zeros(alloc, BLOCK) {
+        Ok(mut block) => take_blocks(source, Vec::new(alloc), &mut block),
+        Err(_) => Taken::NoMemory,
+    }
+}

@@ -1,0 +1,70 @@
+// The words of a single request.
+ghost use Rattle.std.specs.Prelude.{◌≡◌, true, Some};
+ghost use Rattle.site_types.specs.Requests.{IsReading, read_words};
+ghost use Rattle.bp_cli.specs.Words.{is_moment, moment_of, at_moment, without_moment, spoken, IsSpoken};
+
+use site_types::{Request, Text, WordFault, read_number};
+use std::alloc::Global;
+
+const LAST_MOMENT: u64 = 250_000_000_000;
+
+/// A request, and the moment where the words name one, in seconds since 1970-01-01T00:00:00Z.
+#[derive(Debug, Drop)]
+pub struct Spoken {
+    pub moment: Option<u64>,
+    pub request: Request,
+}
+
+fn is_moment(word: &[u8]) -> bool
+    ensures { result ≡ is_moment word.now }
+{
+    matches!(word, [b'@', ..])
+}
+
+fn moment_of(word: &[u8]) -> Option<u64>
+    requires { is_moment word.now ≡ true }
+    ensures { result ≡ moment_of word.now }
+{
+    read_number(&word[1..], LAST_MOMENT)
+}
+
+fn read_at(alloc: Global, moment: u64, words: &[Text]) -> Result<Spoken, WordFault>
+    ensures { IsSpoken result (at_moment (Some moment) (read_words words.now)) }
+{
+    match Request::read(alloc, words) {
+        Ok(request) => Ok(Spoken {
+            moment: Some(moment),
+            request,
+        }),
+        Err(WordFault::Bad { index }) => Err(WordFault::Bad {
+            index: index.saturating_add(1),
+        }),
+        Err(WordFault::NoMemory) => Err(WordFault::NoMemory),
+    }
+}
+
+fn read_now(alloc: Global, words: &[Text]) -> Result<Spoken, WordFault>
+    ensures { IsSpoken result (without_moment (read_words words.now)) }
+{
+    match Request::read(alloc, words) {
+        Ok(request) => Ok(Spoken {
+            moment: None,
+            request,
+        }),
+        Err(fault) => Err(fault),
+    }
+}
+
+/// What the words ask for.
+pub fn read_spoken(alloc: Global, words: &[Text]) -> Result<Spoken, WordFault>
+    ensures { IsSpoken result (spoken words.now) }
+{
+    match words {
+        [first, rest @ ..] if is_moment(first.bytes()) => match moment_of(first.bytes()) {
+            Some(moment) => read_at(alloc, moment, rest),
+            None => Err(WordFault::Bad { index: 0 }),
+        },
+        [_, ..] => read_now(alloc, words),
+        [] => Err(WordFault::Bad { index: 0 }),
+    }
+}
