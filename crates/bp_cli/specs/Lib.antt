@@ -1,2 +1,4 @@
 pub mod Words
 pub mod Payload
+pub mod Gather
+pub mod Runs

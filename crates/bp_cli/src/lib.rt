@@ -1,5 +1,6 @@
 //! The runs of the program: words and a source in, a reply and a status out.
 #![tactic(auto)]
 
+mod gather;
 mod payload;
 mod words;

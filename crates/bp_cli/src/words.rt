@@ -1,6 +1,7 @@
 // The words of a single request.
-ghost use Rattle.std.specs.Prelude.{◌≡◌, true, Some};
+ghost use Rattle.std.specs.Prelude.{◌≡◌, true, Some, None, IfOk};
 ghost use Rattle.site_types.specs.Requests.{IsReading, read_words};
+ghost use Rattle.bp_cli.specs.Gather.{IsLimited};
 ghost use Rattle.bp_cli.specs.Words.{is_moment, moment_of, at_moment, without_moment, spoken, IsSpoken};
 
 use site_types::{Request, Text, WordFault, read_number};
@@ -23,13 +24,15 @@ fn is_moment(word: &[u8]) -> bool
 
 fn moment_of(word: &[u8]) -> Option<u64>
     requires { is_moment word.now ≡ true }
-    ensures { result ≡ moment_of word.now }
+    ensures moment { result ≡ moment_of word.now }
+    ensures limit { IsLimited result }
 {
     read_number(&word[1..], LAST_MOMENT)
 }
 
 fn read_at(alloc: Global, moment: u64, words: &[Text]) -> Result<Spoken, WordFault>
-    ensures { IsSpoken result (at_moment (Some moment) (read_words words.now)) }
+    ensures moment { IfOk result (λ s. s.moment ≡ Some moment) }
+    ensures spoken { IsSpoken result (at_moment (Some moment) (read_words words.now)) }
 {
     match Request::read(alloc, words) {
         Ok(request) => Ok(Spoken {
@@ -37,14 +40,15 @@ fn read_at(alloc: Global, moment: u64, words: &[Text]) -> Result<Spoken, WordFau
             request,
         }),
         Err(WordFault::Bad { index }) => Err(WordFault::Bad {
-            index: index.saturating_add(1),
+            index: index.min(words.len() as u64) + 1,
         }),
         Err(WordFault::NoMemory) => Err(WordFault::NoMemory),
     }
 }
 
 fn read_now(alloc: Global, words: &[Text]) -> Result<Spoken, WordFault>
-    ensures { IsSpoken result (without_moment (read_words words.now)) }
+    ensures moment { IfOk result (λ s. s.moment ≡ None) }
+    ensures spoken { IsSpoken result (without_moment (read_words words.now)) }
 {
     match Request::read(alloc, words) {
         Ok(request) => Ok(Spoken {
@@ -57,7 +61,8 @@ fn read_now(alloc: Global, words: &[Text]) -> Result<Spoken, WordFault>
 
 /// What the words ask for.
 pub fn read_spoken(alloc: Global, words: &[Text]) -> Result<Spoken, WordFault>
-    ensures { IsSpoken result (spoken words.now) }
+    ensures spoken { IsSpoken result (spoken words.now) }
+    ensures limit { IfOk result (λ s. IsLimited s.moment) }
 {
     match words {
         [first, rest @ ..] if is_moment(first.bytes()) => match moment_of(first.bytes()) {

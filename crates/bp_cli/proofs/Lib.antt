@@ -1,0 +1,2 @@
+pub mod WordBounds
+pub mod AnswerLemmas

@@ -1,0 +1,48 @@
+-- What a request is given: its payload, and the moment at which it is carried out.
+use Rattle.std.specs.Prelude.{◌≡◌, ℕ, ◌+◌, ◌≤◌, ◌<◌, List, [], ◌∷◌, ◌++◌, length, codes, Option, Some, None, Result, Ok, Err}
+use Rattle.site_types.specs.declared.answer.Answer.{Answer}
+use Rattle.site_types.specs.declared.answer.Answer.TheVariants.{OutOfMemory, TooMany, ReadFault, ClockFault}
+use Rattle.vault_disk.specs.Input.{Input}
+use Rattle.vault_disk.specs.Ticks.{Ticks}
+use Rattle.desk_model.specs.Limits.{last_moment, payload_limit}
+use Rattle.bp_cli.specs.declared.gather.Gathered.{Gathered}
+
+-- the payload is all that was left
+pub record IsPayload (payload : List ℕ) (old new : Input) : Type 0 where
+  pub whole : old.tells → payload ≡ old.left
+  pub taken : old.tells → new.left ≡ []
+
+-- the moment is the one that the words name, or else one that the clock gave
+abbrev pub IsMoment : Option ℕ → ℕ → Ticks → Ticks → Type 0
+IsMoment (Some named) moment old new = moment ≡ named
+IsMoment None moment old new = old.tells → new.gave ≡ old.gave ++ moment ∷ []
+
+abbrev pub IsLimited : Option ℕ → Type 0
+IsLimited (Some moment) = moment ≤ last_moment
+IsLimited None = Unit {0}
+
+-- more is left than a payload may have
+pub record IsTooLong (kind : List ℕ) (count limit : ℕ) (old : Input) : Type 0 where
+  pub kind_is : kind ≡ codes "bytes"
+  pub count_is : count ≡ payload_limit + 1
+  pub limit_is : limit ≡ payload_limit
+  pub left : old.tells → payload_limit < length old.left
+
+abbrev pub IsTooLongOr : Answer → Type 0
+IsTooLongOr OutOfMemory = Unit {0}
+IsTooLongOr (TooMany kind count limit) = (kind ≡ codes "bytes") × (count ≡ payload_limit + 1) × (limit ≡ payload_limit)
+IsTooLongOr _ = ⊥
+
+-- why nothing was gathered
+abbrev pub IsUngathered : Answer → Input → Type 0
+IsUngathered OutOfMemory old = Unit {0}
+IsUngathered ReadFault old = Unit {0}
+IsUngathered ClockFault old = Unit {0}
+IsUngathered (TooMany kind count limit) old = IsTooLong kind count limit old
+IsUngathered _ old = ⊥
+
+pub record Gathers (named : Option ℕ) (input input' : Input) (ticks ticks' : Ticks) (g : Gathered) : Type 0 where
+  pub payload : IsPayload g.payload input input'
+  pub short : length g.payload ≤ payload_limit
+  pub moment : IsMoment named g.moment ticks ticks'
+  pub limit : g.moment ≤ last_moment

@@ -1,0 +1,93 @@
+-- A run of the program: what is asked, what is answered, and what a stop leaves.
+use Rattle.std.specs.Prelude.{◌≡◌, ◌≢◌, ◌⊎◌, ℕ, List, ◌++◌, Some, Result, Ok, Err, MatchResult}
+use Rattle.site_types.specs.Answers.{number_of, text_of, NeedsMemory}
+use Rattle.site_types.specs.declared.answer.Answer.{Answer}
+use Rattle.site_types.specs.declared.answer.Answer.TheVariants.{OutOfMemory, BadRequest, TooMany, DiskFault, ReadFault, ClockFault, NotAVault}
+use Rattle.vault_disk.specs.Disk.{Disk, Image, During}
+use Rattle.vault_disk.specs.Steps.{Sends}
+use Rattle.vault_disk.specs.Input.{Input}
+use Rattle.vault_disk.specs.Ticks.{Ticks}
+use Rattle.desk_model.specs.State.{State, durable}
+use Rattle.desk_model.specs.Replay.{Mark, plain, memory, fault, Entry, stepped, answer_of}
+use Rattle.site_desk.specs.Stands.{opened, stands, StandsFor}
+use Rattle.bp_cli.specs.Words.{spoken}
+use Rattle.bp_cli.specs.Gather.{IsPayload, IsMoment, IsTooLong}
+use Rattle.bp_cli.specs.declared.words.Spoken.{Spoken}
+
+-- nothing was carried out, or one request with its payload at a moment
+pub data Outcome : Type 0 where
+  refused : Answer → Outcome
+  carried : Entry → Outcome
+
+-- the answer to a run that begins in this state
+abbrev pub said : State → Outcome → Answer
+said s (refused answer) = answer
+said s (carried e) = answer_of s e
+
+-- The request is what the words ask for, its payload is the whole of the source, and it is carried out at the moment that the words
+-- name, or else at one that the clock gave.
+pub record IsCarried (words : List (List ℕ)) (input input' : Input) (ticks ticks' : Ticks) (e : Entry) : Type 0 where
+  pub asked : Spoken
+  pub words_ask : spoken words ≡ Ok asked
+  pub request : e.request ≡ asked.request
+  pub payload : IsPayload e.payload input input'
+  pub moment : IsMoment asked.moment e.moment ticks ticks'
+
+-- Nothing else is carried out, and a refusal has its reason: the index of the first bad word, a payload that is too long, or the offset
+-- at which the vault is none. Want of memory and faults are told of by clauses of their own.
+abbrev pub IsAsked : List (List ℕ) → Image → Input → Input → Ticks → Ticks → Outcome → Type 0
+IsAsked words seen input input' ticks ticks' (refused OutOfMemory) = Unit {0}
+IsAsked words seen input input' ticks ticks' (refused (BadRequest index)) = spoken words ≡ Err index
+IsAsked words seen input input' ticks ticks' (refused (TooMany kind count limit)) = IsTooLong kind count limit input
+IsAsked words seen input input' ticks ticks' (refused DiskFault) = Unit {0}
+IsAsked words seen input input' ticks ticks' (refused ReadFault) = Unit {0}
+IsAsked words seen input input' ticks ticks' (refused ClockFault) = Unit {0}
+IsAsked words seen input input' ticks ticks' (refused (NotAVault offset)) = opened seen ≡ Err offset
+IsAsked words seen input input' ticks ticks' (refused _) = ⊥
+IsAsked words seen input input' ticks ticks' (carried e) = IsCarried words input input' ticks ticks' e
+
+-- the image stands for the state that a mark leaves; after a fault it may be the one before
+abbrev pub EndsBy : State → Entry → Mark → Image → Type 0
+EndsBy s e plain c = stands c ≡ Some (durable (stepped s e).1)
+EndsBy s e memory c = stands c ≡ Some (durable s)
+EndsBy s e fault c = StandsFor s (stepped s e).1 c
+
+abbrev pub Ends : State → Outcome → Image → Type 0
+Ends s (refused answer) c = stands c ≡ Some (durable s)
+Ends s (carried e) c = EndsBy s e e.mark c
+
+-- A stop leaves the state before, and nothing of the reply was sent; or the state that the outcome ends in, and at most the reply was.
+pub record Replied (s : State) (o : Outcome) (base : List ℕ) (c : Image) (b : List ℕ) : Type 0 where
+  pub ends : Ends s o c
+  pub rest : List ℕ
+  pub sent : b ++ rest ≡ base ++ text_of (said s o)
+
+abbrev pub Covered : State → Outcome → List ℕ → Image → List ℕ → Type 0
+Covered s o base c b = ((stands c ≡ Some (durable s)) × (b ≡ base)) ⊎ Replied s o base c b
+
+-- A request was answered on a vault, and nothing is sent yet.
+pub record Answers (s : State) (words : List (List ℕ)) (disk disk' : Disk) (input input' : Input) (ticks ticks' : Ticks) (a : Answer) : Type 0 where
+  pub outcome : Outcome
+  pub asked : IsAsked words disk.seen input input' ticks ticks' outcome
+  pub is : a ≡ said s outcome
+  pub now : (c : Image) → disk'.may_leave c → Ends s outcome c
+  pub during : During disk disk' (λ c b. ((stands c ≡ Some (durable s)) ⊎ Ends s outcome c) × (b ≡ disk.sent))
+
+-- An answer was sent in whole, or in part with status 20. Where no memory is left for its text it is want of memory.
+pub record Replies (a : Answer) (old new : Disk) (status : ℕ) : Type 0 where
+  pub sent : Answer
+  pub is : (sent ≡ a) ⊎ ((sent ≡ OutOfMemory) × NeedsMemory a)
+  pub result : Result (Unit {0}) (Unit {0})
+  pub sends : Sends (text_of sent) old new result
+  pub status_is : MatchResult result (λ _. status ≡ number_of sent) (λ _. status ≡ 20)
+
+-- A run from a state: what is sent is the model's answer, or its first bytes where a send failed, and wherever the run stops the disk
+-- stands for the state before or for the one that it ends in, which it does once a byte of the reply was sent.
+pub record Ran (s : State) (words : List (List ℕ)) (disk disk' : Disk) (input input' : Input) (ticks ticks' : Ticks) (status : ℕ) : Type 0 where
+  pub outcome : Outcome
+  pub asked : IsAsked words disk.seen input input' ticks ticks' outcome
+  pub status_is : (status ≡ number_of (said s outcome)) ⊎ (status ≡ 20)
+  pub sent : status ≢ 20 → disk'.sent ≡ disk.sent ++ text_of (said s outcome)
+  pub part : (rest : List ℕ) × (disk'.sent ++ rest ≡ disk.sent ++ text_of (said s outcome))
+  pub now : (c : Image) → disk'.may_leave c → Ends s outcome c
+  pub stops : (c : Image) (b : List ℕ) → disk'.left_since disk.moment c b → Covered s outcome disk.sent c b

@@ -1,0 +1,76 @@
+// What a request is given.
+ghost use Rattle.std.specs.Prelude.{◌≡◌, ◌≤◌, codes, length, IfOk, IfErr, OnErr};
+ghost use Rattle.vault_disk.specs.Steps.{Rose};
+ghost use Rattle.vault_disk.specs.Input.{IsSameInput};
+ghost use Rattle.desk_model.specs.Limits.{last_moment, payload_limit};
+ghost use Rattle.bp_cli.specs.Gather.{Gathers, IsLimited, IsMoment, IsTooLongOr, IsUngathered};
+
+use crate::payload::{Taken, take_payload};
+use site_types::{Answer, NoMemory, Text};
+use std::alloc::Global;
+use vault_disk::{Clock, Failed, Source};
+
+const PAYLOAD_LIMIT: u64 = 67_108_864;
+
+/// A payload, and a moment in seconds since 1970-01-01T00:00:00Z.
+#[derive(Drop)]
+pub struct Gathered {
+    pub payload: Text,
+    pub moment: u64,
+}
+
+fn too_long_text(alloc: Global) -> Result<Text, NoMemory>
+    ensures { IfOk result (λ t. t ≡ codes "bytes") }
+{
+    Ok(Text::from_vec(b"bytes".to_vec(alloc)?))
+}
+
+fn too_long(alloc: Global) -> Answer
+    ensures { IsTooLongOr result }
+{
+    match too_long_text(alloc) {
+        Ok(kind) => Answer::TooMany {
+            kind,
+            count: PAYLOAD_LIMIT + 1,
+            limit: PAYLOAD_LIMIT,
+        },
+        Err(_) => Answer::OutOfMemory,
+    }
+}
+
+fn moment_at<C: Clock>(named: Option<u64>, clock: &mut C) -> Result<u64, Failed>
+    requires limited { IsLimited named }
+    ensures limit { IfOk result (λ m. m ≤ last_moment) }
+    ensures moment { IfOk result (λ m. IsMoment named m (C.ticks clock.old) (C.ticks clock.new)) }
+    ensures failed { OnErr result (Rose (C.ticks clock.old).faults (C.ticks clock.new).faults) }
+{
+    match named {
+        Some(moment) => Ok(moment),
+        None => clock.now(),
+    }
+}
+
+/// Takes the payload from a source, and finds the moment: the one that is named, or else that of the clock.
+pub fn gather<S: Source, C: Clock>(
+    alloc: Global,
+    named: Option<u64>,
+    source: &mut S,
+    clock: &mut C,
+) -> Result<Gathered, Answer>
+    requires limited { IsLimited named }
+    ensures gathered { IfOk result (λ g. Gathers named (S.input source.old) (S.input source.new) (C.ticks clock.old) (C.ticks clock.new) g) }
+    ensures refused { IfErr result (λ a. IsUngathered a (S.input source.old)) }
+    ensures read_fault { IfErr result (λ a. a ≡ Answer.ReadFault → Rose (S.input source.old).faults (S.input source.new).faults) }
+    ensures clock_fault { IfErr result (λ a. a ≡ Answer.ClockFault → Rose (C.ticks clock.old).faults (C.ticks clock.new).faults) }
+{
+    let payload = match take_payload(alloc, source) {
+        Taken::Whole(payload) => payload,
+        Taken::TooLong => return Err(too_long(alloc)),
+        Taken::Failed => return Err(Answer::ReadFault),
+        Taken::NoMemory => return Err(Answer::OutOfMemory),
+    };
+    let Ok(moment) = moment_at(named, clock) else {
+        return Err(Answer::ClockFault);
+    };
+    Ok(Gathered { payload, moment })
+}
