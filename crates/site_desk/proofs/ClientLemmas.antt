@@ -1,6 +1,6 @@
 -- Looking through the clients one by one.
-use Rattle.std.proofs.Common.{◌≡◌, ◌<◌, ◌≤◌, ◌+◌, ℕ, zero, suc, max, List, [], ◌∷◌, ◌++◌, length, take, drop, get_or, set, append_assoc, take-append-drop, Bool, true, false, Some, None, refl, sym, ◌∙◌, ap, subst, arith}
-use Rattle.std.specs.Prelude.{Option, find, if◌then◌else◌, insert}
+use Rattle.std.proofs.Common.{◌≡◌, ◌<◌, ◌+◌, ℕ, zero, suc, max, List, [], ◌∷◌, ◌++◌, length, take, drop, get_or, set, append_assoc, take-append-drop, Bool, true, false, Some, refl, sym, ◌∙◌, ap, arith}
+use Rattle.std.specs.Prelude.{Option, if◌then◌else◌, insert}
 use Rattle.std.specs.Str.{bytes_eq}
 use Rattle.std.specs.Cmp.Lexicographic.{slice_cmp}
 use Rattle.std.specs.Ordering.{match_ordering, nat_cmp}
@@ -8,7 +8,6 @@ use Rattle.std.specs.declared.cmp.Ordering.{Ordering}
 use Rattle.std.specs.declared.cmp.Ordering.TheVariants.{Less, Equal, Greater}
 use Rattle.std.proofs.lemmas.List.{drop_more, take_more, take-set, drop-set}
 use Rattle.desk_model.specs.Site.{Client, client_named, raise_last}
-use Rattle.desk_model.specs.Step.{last_of}
 
 found_at : (b : Bool) (c : Client) (o : Option Client) → b ≡ true → (if b then Some c else o) ≡ Some c
 found_at b c o is = (λ i. if is i then Some c else o)

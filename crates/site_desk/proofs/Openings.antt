@@ -1,14 +1,14 @@
 -- What an opening finds, and what it makes of it.
-use Rattle.std.proofs.Common.{◌≡◌, ℕ, List, [], Some, None, Ok, Err, refl, sym, ◌∙◌, ap, subst}
-use Rattle.std.specs.Prelude.{Option, Result}
+use Rattle.std.proofs.Common.{◌≡◌, ℕ, List, Some, None, Ok, Err, refl, sym, ◌∙◌, ap, subst}
+use Rattle.std.specs.Prelude.{Option}
 use Rattle.vault_disk.specs.Disk.{Disk}
 use Rattle.pool_journal.specs.declared.records.Placed.{Placed}
 use Rattle.pool_journal.specs.Records.{Found, Reading, found, broken, foreign, reading, placed}
-use Rattle.pool_journal.specs.Stops.{AtRest, IsOpened}
+use Rattle.pool_journal.specs.Stops.{IsOpened}
 use Rattle.desk_model.specs.Site.{Client}
-use Rattle.desk_model.specs.State.{State, initial, durable}
-use Rattle.site_desk.specs.Stands.{applied, unless_before, stood, opened, Standing}
-use Rattle.site_desk.specs.Opening.{Makes, IsReplayed}
+use Rattle.desk_model.specs.State.{State}
+use Rattle.site_desk.specs.Stands.{unless_before, stood, opened, Standing}
+use Rattle.site_desk.specs.Opening.{IsReplayed}
 use Rattle.site_desk.specs.Desk.{built, desk_state, Kept}
 use Rattle.site_desk.proofs.Standings.{standing}
 use Rattle.site_desk.proofs.Sealing.{state_is}
@@ -18,13 +18,6 @@ unfit_opening (found fs) d end at entries None clients is replayed = replayed fs
 unfit_opening (found fs) d end at entries (Some b) clients is replayed = absurd is
 unfit_opening (broken fs b) d end at entries bad clients is replayed = ap (unless_before b) (replayed fs (sym is.0))
 unfit_opening (foreign b) d end at entries bad clients is replayed = absurd is
-
-pub broken_opening : (r : Reading) (d : Disk) (end at : ℕ) (entries : List Placed) (clients : List Client) → IsOpened r d end entries (Some at) → ((records : List Found) → placed records ≡ entries → IsReplayed records clients None) → stood r ≡ Err at
-broken_opening (found fs) d end at entries clients is replayed = absurd is
-broken_opening (broken fs b) d end at entries clients is replayed =
-    let same : b ≡ at = cc (is.1) in
-    ap (unless_before b) (replayed fs (sym is.0)).made ∙ ap Err same
-broken_opening (foreign b) d end at entries clients is replayed = absurd is
 
 -- a vault that was opened
 pub record Fine (r : Reading) (d : Disk) (end : ℕ) (clients : List Client) : Type 0 where

@@ -1,13 +1,12 @@
 -- Replaying records one by one.
-use Rattle.std.proofs.Common.{◌≡◌, ◌≢◌, ◌<◌, ◌≤◌, ◌+◌, ℕ, zero, suc, max, List, [], ◌∷◌, ◌++◌, length, take, drop, map, get_or, Bool, true, false, Some, None, Ok, Err, refl, sym, ◌∙◌, ap, subst, arith, rules}
-use Rattle.std.specs.Prelude.{Option, Result, find, if◌then◌else◌, ◌||◌, ◌&&◌, ◌==◌, not}
+use Rattle.std.proofs.Common.{◌≡◌, ◌<◌, ◌≤◌, ◌+◌, ℕ, zero, suc, max, List, [], ◌∷◌, ◌++◌, length, take, drop, get_or, Bool, true, false, Some, None, Err, refl, sym, ◌∙◌, ap, subst, arith, rules}
+use Rattle.std.specs.Prelude.{Option, if◌then◌else◌, ◌||◌, ◌&&◌, ◌==◌}
 use Rattle.std.specs.Str.{bytes_eq}
-use Rattle.std.specs.List.{list_any}
 use Rattle.std.specs.Cmp.Lexicographic.{slice_cmp}
 use Rattle.std.specs.Ordering.{match_ordering, nat_cmp, is_eq, ordering_reverse}
 use Rattle.std.specs.declared.cmp.Ordering.{Ordering}
 use Rattle.std.specs.declared.cmp.Ordering.TheVariants.{Less, Equal, Greater}
-use Rattle.std.proofs.lemmas.List.{drop_more, take_more, drop_all, length-map}
+use Rattle.std.proofs.lemmas.List.{take_more, drop_all, length-map}
 use Rattle.std.specs.Cmp.{IsTotalOrder}
 use Rattle.std.specs.Cmp.Rules.{comparing}
 use Rattle.std.proofs.lemmas.List.Folds.{list_any-append}
@@ -26,7 +25,7 @@ use Rattle.desk_model.specs.State.{State, Image, Stored, initial, same_id, is_be
 use Rattle.site_desk.specs.Stands.{image_fits, entry_fits, whole_image, whole_unit, apply, apply_entry, applied, applied_from}
 use Rattle.site_desk.specs.Desk.{built, TimesBelow}
 use Rattle.site_desk.specs.Clients.{AllAfter, ByName}
-use Rattle.site_desk.specs.Opening.{image_in, id_in, is_recorded, Remembers, Makes, IsReplayed}
+use Rattle.site_desk.specs.Opening.{image_in, id_in, is_recorded, Remembers, Makes}
 
 bytes_same : (x : List ℕ) → bytes_eq x x ≡ true
 bytes_same x = (bytes_eq-Decides x x).1 refl
@@ -131,6 +130,7 @@ has_image-with id new (i ∷ images) = at (is_before new.entry.id i.entry.id) (h
     swapped : (a b c d : Bool) → d ≡ (a || c) → (b || d) ≡ (a || (b || c))
     swapped true b c d is = grind (arith, is)
     swapped false b c d is = ap (λ (x : Bool). b || x) is
+
     at : (b : Bool) → has_image id (with_image new images) ≡ (same_id new.entry.id id || has_image id images)
         → has_image id (if b then new ∷ i ∷ images else i ∷ with_image new images) ≡ (same_id new.entry.id id || (same_id i.entry.id id || has_image id images))
     at true more = refl

@@ -1,24 +1,21 @@
 -- A backup under the built-in policy.
-use Rattle.std.proofs.Common.{◌≡◌, ◌≢◌, ◌<◌, ◌≤◌, ◌+◌, ◌-◌, ◌^◌, ℕ, min, max, List, [], ◌∷◌, ◌++◌, length, Bool, true, false, Some, None, Ok, Err, inl, inr, refl, sym, ◌∙◌, ap, subst, arith}
-use Rattle.std.specs.Prelude.{Option, Result, if◌then◌else◌, ◌&&◌, ◌||◌, not, is_some, nat_le, nat_lt, codes}
-use Rattle.std.specs.Result.{result_ok}
+use Rattle.std.proofs.Common.{◌≡◌, ◌≤◌, ◌+◌, ◌-◌, ◌^◌, ℕ, min, max, List, ◌++◌, length, Bool, true, false, Some, None, Ok, refl, sym, ◌∙◌, ap, subst, arith}
+use Rattle.std.specs.Prelude.{if◌then◌else◌, ◌&&◌, ◌||◌, not, is_some, nat_le, nat_lt, codes}
 use Rattle.std.proofs.lemmas.Bool.Decides.{nat_tests}
 use Rattle.site_types.specs.Ids.{id_text}
 use Rattle.site_types.specs.declared.id.BackupId.{BackupId}
 use Rattle.site_types.specs.declared.answer.Answer.{Answer}
-use Rattle.site_types.specs.declared.answer.Answer.TheVariants.{Done, TooMany, DiskFault}
+use Rattle.site_types.specs.declared.answer.Answer.TheVariants.{Done, TooMany}
 use Rattle.site_types.specs.declared.image.Kind.TheVariants.{Full}
 use Rattle.site_types.specs.declared.image.Base.TheVariants as base
 use Rattle.site_types.specs.declared.request.Request.TheVariants.{Backup}
 use Rattle.vault_disk.specs.Disk.{Disk}
 use Rattle.pool_journal.specs.declared.entry.Entry.{Entry}
-use Rattle.pool_journal.specs.Entries.{Record}
-use Rattle.pool_journal.specs.Records.{Reading, found, reading}
 use Rattle.desk_model.specs.Limits.{last_moment}
-use Rattle.desk_model.specs.Site.{Client, client_named, raise_last, adhoc, manual}
-use Rattle.desk_model.specs.State.{State, Image, Stored, durable, has_image, with_image}
-use Rattle.desk_model.specs.Step.{step, last_of, sealed, sealed_entry, new_time, backup_done, unless_refused, first_refusal}
-use Rattle.site_desk.specs.Stands.{image_fits, apply, apply_entry, opened, stood, Standing, Between}
+use Rattle.desk_model.specs.Site.{Client, client_named, raise_last}
+use Rattle.desk_model.specs.State.{State, Image, Stored, durable, has_image}
+use Rattle.desk_model.specs.Step.{step, last_of, sealed, sealed_entry, new_time, backup_done, unless_refused}
+use Rattle.site_desk.specs.Stands.{apply, apply_entry, opened, stood, Standing, Between}
 use Rattle.site_desk.specs.declared.record.Recorded.{Recorded}
 use Rattle.site_desk.specs.declared.record.Recorded.TheVariants.{Written}
 use Rattle.site_desk.specs.Clients.{ByName}
@@ -65,6 +62,7 @@ module _ (clients : List Client) (images : List Image) (stored : List Stored) (c
     where
       image_at : ℕ → Image
       image_at k = record { entry = sealed_entry before.site (record { client = client; time = k }) (codes "adhoc") (codes "manual") Full base.None (codes "basic") 1 moment (length payload); bytes = payload }
+
       is_fresh : (b : Bool) → has_image (record { client = client; time = time }) images ≡ b → not b ≡ true
       is_fresh false is = refl
       is_fresh true is = let low = below (record { client = client; time = time }) is in absurd (omega (arith, low, time_is))

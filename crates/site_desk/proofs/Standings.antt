@@ -1,6 +1,6 @@
 -- What the journal's promises say of the desk's state.
-use Rattle.std.proofs.Common.{◌≡◌, ◌⊎◌, inl, inr, ⊎_elim, ℕ, List, [], ◌∷◌, ◌++◌, Some, None, Ok, Err, refl, sym, ◌∙◌, ap, subst}
-use Rattle.std.specs.Prelude.{Option, Result}
+use Rattle.std.proofs.Common.{◌≡◌, ◌⊎◌, inl, inr, ⊎_elim, ℕ, List, [], ◌∷◌, Some, None, Ok, sym, ◌∙◌, ap, subst}
+use Rattle.std.specs.Prelude.{Option}
 use Rattle.std.specs.Result.{result_ok}
 use Rattle.vault_disk.specs.Disk.{Disk, Image as DiskImage}
 use Rattle.vault_disk.specs.Steps.{Rests}
@@ -9,7 +9,7 @@ use Rattle.pool_journal.specs.Entries.{Record}
 use Rattle.pool_journal.specs.Records.{Found, Reading, found, reading, Holds}
 use Rattle.pool_journal.specs.Stops.{FromBefore, with_one, IsBeforeOrAfter, Stops, Appending, Appended, OpenStops, SameReading}
 use Rattle.desk_model.specs.State.{State, initial, durable}
-use Rattle.site_desk.specs.Stands.{apply, applied_from, applied, stood, opened, stands, Standing, StandsFor, Between, Opens}
+use Rattle.site_desk.specs.Stands.{apply, applied_from, applied, stood, stands, Standing, StandsFor, Between, Opens}
 use Rattle.site_desk.specs.Desk.{KeptState}
 
 applied-push : (at : ℕ) (o : Option State) (fs : List Found) (end : ℕ) (r : Record) (s t : State) → applied_from at o fs ≡ Ok s → apply s r ≡ Some t → applied_from at o (with_one fs end r) ≡ Ok t

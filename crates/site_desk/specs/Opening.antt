@@ -1,5 +1,5 @@
 -- What a desk remembers of the records that it reads at an opening.
-use Rattle.std.specs.Prelude.{◌≡◌, ℕ, Bool, List, Option, Some, None, Result, Ok, Err}
+use Rattle.std.specs.Prelude.{◌≡◌, ℕ, Bool, List, Option, Some, None, Ok, Err}
 use Rattle.std.specs.List.{list_any}
 use Rattle.site_types.specs.declared.id.BackupId.{BackupId}
 use Rattle.pool_journal.specs.declared.entry.Entry.{Entry}
@@ -8,7 +8,7 @@ use Rattle.pool_journal.specs.declared.entry.WholeImage.{WholeImage}
 use Rattle.pool_journal.specs.declared.records.Placed.{Placed}
 use Rattle.pool_journal.specs.Records.{Found}
 use Rattle.desk_model.specs.Site.{Client}
-use Rattle.desk_model.specs.State.{State, Image, Stored, initial, same_id, has_image}
+use Rattle.desk_model.specs.State.{Image, Stored, initial, same_id, has_image}
 use Rattle.site_desk.specs.Stands.{applied}
 use Rattle.site_desk.specs.Clients.{ByName}
 use Rattle.site_desk.specs.Desk.{built, TimesBelow}

@@ -74,13 +74,7 @@ impl<V: Vault> Desk<V> {
 
     /// Carries out a request with its payload at this moment, in seconds since 1970-01-01T00:00:00Z. After a disk fault the desk
     /// is stopped, and the request may have been carried out or not.
-    pub fn step(
-        &mut self,
-        alloc: Global,
-        request: &Request,
-        payload: &[u8],
-        moment: u64,
-    ) -> Answer
+    pub fn step(&mut self, alloc: Global, request: &Request, payload: &[u8], moment: u64) -> Answer
         requires running { self.old.stopped ≡ false }
         requires payload { length payload.now ≤ payload_limit }
         requires moment { moment ≤ last_moment }
@@ -124,7 +118,11 @@ impl<V: Vault> Desk<V> {
         let Ok(()) = make_room(&mut self.clients) else {
             return Answer::OutOfMemory;
         };
-        let Prepared { entry, body, client } = prepared;
+        let Prepared {
+            entry,
+            body,
+            client,
+        } = prepared;
         match write_record(alloc, &mut self.journal, &mut self.vault, &entry, payload) {
             Recorded::Written => {
                 let place = place_of(&self.clients, client.name());

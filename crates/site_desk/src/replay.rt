@@ -98,11 +98,7 @@ pub struct Replayed {
 }
 
 // Raises the last id time of the entry's client.
-fn record_entry(
-    alloc: Global,
-    clients: &mut Vec<Client>,
-    entry: &Entry,
-) -> Result<(), NoMemory>
+fn record_entry(alloc: Global, clients: &mut Vec<Client>, entry: &Entry) -> Result<(), NoMemory>
     ensures { OnOk result (clients.new.items ≡ raise_last (id_in entry.now).client (id_in entry.now).time clients.old.items) }
 {
     let id = id_in(entry);

@@ -1,4 +1,4 @@
-use Rattle.std.proofs.Common.{◌≡◌, ◌∙◌, arith, ap, sym, List, ℕ}
+use Rattle.std.proofs.Common.{◌∙◌, arith, ap, sym, List, ℕ}
 use Rattle.std.specs.Cmp.Lexicographic.{slice_cmp}
 use Rattle.std.specs.Ordering.{nat_cmp}
 use Rattle.site_desk.proofs.ClientLemmas.{raised_at}

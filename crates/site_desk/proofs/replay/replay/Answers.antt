@@ -1,7 +1,5 @@
-use Rattle.std.proofs.Common.{◌≡◌, ◌∙◌, ◌<◌, ◌≤◌, arith, ap, sym, subst, List, ℕ, length, get_or, true, false}
-use Rattle.std.specs.Prelude.{None, Some}
+use Rattle.std.proofs.Common.{◌≡◌, ◌∙◌, ◌<◌, ◌≤◌, arith, ap, sym, subst, List, length, get_or, true, false}
 use Rattle.pool_journal.specs.declared.records.Placed.{Placed}
-use Rattle.pool_journal.specs.Records.{placed}
 use Rattle.desk_model.specs.Site.{Client}
 use Rattle.site_desk.specs.Stands.{entry_fits}
 use Rattle.site_desk.specs.Desk.{built}

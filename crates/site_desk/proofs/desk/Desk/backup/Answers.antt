@@ -1,9 +1,7 @@
-use Rattle.std.proofs.Common.{◌≡◌, ◌∙◌, ap, sym, subst, refl, List, ℕ}
+use Rattle.std.proofs.Common.{◌∙◌, ap, sym, subst}
 use Rattle.desk_model.specs.Site.{Client, client_named}
-use Rattle.desk_model.specs.Step.{step, last_of}
-use Rattle.site_types.specs.declared.request.Request.TheVariants.{Backup}
-use Rattle.site_desk.specs.Stands.{Standing, Between}
-use Rattle.site_desk.specs.Desk.{DeskValue, desk_state}
+use Rattle.desk_model.specs.Step.{last_of}
+use Rattle.site_desk.specs.Desk.{DeskValue}
 use Rattle.site_desk.proofs.Sealing.{BetweenSteps, sealed_now, either_left}
 use Rattle.site_desk.proofs.desk.Desk.backup.Goals as goal
 
