@@ -1,9 +1,21 @@
--- What is known of an answer by its number.
-use Rattle.std.proofs.Common.{◌≡◌, ◌≢◌, ℕ, refl, sym, ap, List}
-use Rattle.site_types.specs.Answers.{number_of, NeedsMemory}
+-- Answers by their numbers.
+use Rattle.std.proofs.Common.{◌≡◌, refl, arith}
+use Rattle.site_types.specs.Answers.{number_of}
 use Rattle.site_types.specs.declared.answer.Answer.{Answer}
 use Rattle.site_types.specs.declared.answer.Answer.TheVariants.{Done, OutOfMemory, BadRequest, Exists, Unknown, InUse, BadLifecycle, Inactive, WindowClosed, AboveHigh, UnitFull, Needed, Short, NoJob, Unaligned, TooMany, ChainBroken, Damaged, DiskFault, ReadFault, SendFault, ClockFault, NotAVault, BadStream}
 
 pub is_disk_fault : (a : Answer) → number_of a ≡ 18 → a ≡ DiskFault
 is_disk_fault DiskFault is = refl
-is_disk_fault _ is = absurd (cc is)
+is_disk_fault _ is = absurd (omega (arith, is))
+
+pub is_read_fault : (a : Answer) → number_of a ≡ 19 → a ≡ ReadFault
+is_read_fault ReadFault is = refl
+is_read_fault _ is = absurd (omega (arith, is))
+
+pub is_send_fault : (a : Answer) → number_of a ≡ 20 → a ≡ SendFault
+is_send_fault SendFault is = refl
+is_send_fault _ is = absurd (omega (arith, is))
+
+pub is_clock_fault : (a : Answer) → number_of a ≡ 21 → a ≡ ClockFault
+is_clock_fault ClockFault is = refl
+is_clock_fault _ is = absurd (omega (arith, is))

@@ -1,2 +1,7 @@
 pub mod WordBounds
 pub mod AnswerLemmas
+pub mod StepLemmas
+pub mod Sending
+pub mod Obeying
+pub mod Opened
+pub mod Replying

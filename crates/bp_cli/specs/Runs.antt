@@ -7,11 +7,13 @@ use Rattle.vault_disk.specs.Disk.{Disk, Image, During}
 use Rattle.vault_disk.specs.Steps.{Sends}
 use Rattle.vault_disk.specs.Input.{Input}
 use Rattle.vault_disk.specs.Ticks.{Ticks}
+use Rattle.pool_journal.specs.declared.fault.JournalFault.{JournalFault}
+use Rattle.pool_journal.specs.declared.fault.JournalFault.TheVariants as journal
 use Rattle.desk_model.specs.State.{State, durable}
 use Rattle.desk_model.specs.Replay.{Mark, plain, memory, fault, Entry, stepped, answer_of}
 use Rattle.site_desk.specs.Stands.{opened, stands, StandsFor}
 use Rattle.bp_cli.specs.Words.{spoken}
-use Rattle.bp_cli.specs.Gather.{IsPayload, IsMoment, IsTooLong}
+use Rattle.bp_cli.specs.Gather.{IsPayload, IsMoment, IsTooLong, IsUngathered}
 use Rattle.bp_cli.specs.declared.words.Spoken.{Spoken}
 
 -- nothing was carried out, or one request with its payload at a moment
@@ -46,6 +48,17 @@ IsAsked words seen input input' ticks ticks' (refused (NotAVault offset)) = open
 IsAsked words seen input input' ticks ticks' (refused _) = ⊥
 IsAsked words seen input input' ticks ticks' (carried e) = IsCarried words input input' ticks ticks' e
 
+-- a request on an open vault
+abbrev pub IsObeyed : Spoken → Input → Input → Ticks → Ticks → Outcome → Type 0
+IsObeyed asked input input' ticks ticks' (refused answer) = IsUngathered answer input
+IsObeyed asked input input' ticks ticks' (carried e) = (e.request ≡ asked.request) × IsPayload e.payload input input' × IsMoment asked.moment e.moment ticks ticks'
+
+-- what is answered where the vault can't be opened
+abbrev pub refusal_of : JournalFault → Answer
+refusal_of journal.NoMemory = OutOfMemory
+refusal_of journal.DiskFault = DiskFault
+refusal_of (journal.NotAVault offset) = NotAVault offset
+
 -- the image stands for the state that a mark leaves; after a fault it may be the one before
 abbrev pub EndsBy : State → Entry → Mark → Image → Type 0
 EndsBy s e plain c = stands c ≡ Some (durable (stepped s e).1)
@@ -72,6 +85,20 @@ pub record Answers (s : State) (words : List (List ℕ)) (disk disk' : Disk) (in
   pub is : a ≡ said s outcome
   pub now : (c : Image) → disk'.may_leave c → Ends s outcome c
   pub during : During disk disk' (λ c b. ((stands c ≡ Some (durable s)) ⊎ Ends s outcome c) × (b ≡ disk.sent))
+
+-- What a request does to a desk that has this state.
+pub record Obeys (s : State) (asked : Spoken) (disk disk' : Disk) (input input' : Input) (ticks ticks' : Ticks) (a : Answer) : Type 0 where
+  pub outcome : Outcome
+  pub obeyed : IsObeyed asked input input' ticks ticks' outcome
+  pub is : a ≡ said s outcome
+  pub now : (c : Image) → disk'.may_leave c → Ends s outcome c
+  pub during : During disk disk' (λ c b. ((stands c ≡ Some (durable s)) ⊎ Ends s outcome c) × (b ≡ disk.sent))
+
+-- a text was sent in whole, or in part with status 20
+pub record Delivers (text : List ℕ) (number : ℕ) (old new : Disk) (status : ℕ) : Type 0 where
+  pub result : Result (Unit {0}) (Unit {0})
+  pub sends : Sends text old new result
+  pub status_is : MatchResult result (λ _. status ≡ number) (λ _. status ≡ 20)
 
 -- An answer was sent in whole, or in part with status 20. Where no memory is left for its text it is want of memory.
 pub record Replies (a : Answer) (old new : Disk) (status : ℕ) : Type 0 where

@@ -2,5 +2,9 @@
 #![tactic(auto)]
 
 mod gather;
+mod obey;
 mod payload;
+mod session;
 mod words;
+
+pub use session::run;

@@ -1,0 +1,67 @@
+-- A request on an open vault.
+use Rattle.std.proofs.Common.{◌≡◌, ◌≢◌, ◌⊎◌, inl, inr, ⊎_elim, ℕ, List, refl, sym, ◌∙◌, ap, subst}
+use Rattle.std.specs.Prelude.{Some, Option}
+use Rattle.site_types.specs.declared.request.Request.{Request}
+use Rattle.site_types.specs.declared.answer.Answer.{Answer}
+use Rattle.site_types.specs.declared.answer.Answer.TheVariants.{Done, OutOfMemory, BadRequest, Exists, Unknown, InUse, BadLifecycle, Inactive, WindowClosed, AboveHigh, UnitFull, Needed, Short, NoJob, Unaligned, TooMany, ChainBroken, Damaged, DiskFault, ReadFault, SendFault, ClockFault, NotAVault, BadStream}
+use Rattle.vault_disk.specs.Disk.{Disk, Image}
+use Rattle.vault_disk.specs.Input.{Input}
+use Rattle.vault_disk.specs.Ticks.{Ticks}
+use Rattle.vault_disk.proofs.Moments.{started, weaker}
+use Rattle.desk_model.specs.State.{State, durable}
+use Rattle.desk_model.specs.Step.{step}
+use Rattle.desk_model.specs.Replay.{Mark, plain, memory, fault, Entry, answer_of}
+use Rattle.site_desk.specs.Desk.{Answered, Moved, reached}
+use Rattle.site_desk.specs.Stands.{stands, Standing, StandsFor, Between}
+use Rattle.bp_cli.specs.Gather.{Gathers, IsPayload, IsUngathered}
+use Rattle.bp_cli.specs.Runs.{refused, carried, EndsBy, Ends, Obeys}
+use Rattle.bp_cli.specs.declared.gather.Gathered.{Gathered}
+use Rattle.bp_cli.specs.declared.words.Spoken.{Spoken}
+
+abbrev pub mark_of : Answer → Mark
+mark_of OutOfMemory = memory
+mark_of DiskFault = fault
+mark_of _ = plain
+
+module _ (s : State) (r : Request) (payload : List ℕ) (moment : ℕ) where
+  abbrev entry_of : Answer → Entry
+  entry_of a = record { request = r; payload = payload; moment = moment; mark = mark_of a }
+
+  marked : (a : Answer) → Answered s r payload moment a → a ≡ answer_of s (entry_of a)
+  marked OutOfMemory is = refl
+  marked DiskFault is = refl
+  marked _ is = is
+
+  before_or_after : (a : Answer) (c : Image) → StandsFor s (reached s r payload moment a) c → (stands c ≡ Some (durable s)) ⊎ EndsBy s (entry_of a) (mark_of a) c
+  before_or_after OutOfMemory c left = inl (⊎_elim (λ was. was) (λ is. is) left)
+  before_or_after DiskFault c left = inr left
+  before_or_after _ c left = left
+
+  ended : (a : Answer) (new : State) (d0 d1 : Disk) → (a ≢ DiskFault → Standing d1 new) → Moved s r payload moment a new → Between s (reached s r payload moment a) d0 d1 → (c : Image) → d1.may_leave c → EndsBy s (entry_of a) (mark_of a) c
+  ended OutOfMemory new d0 d1 standing moved between c left = (standing (λ z. absurd (cc z))).each c left ∙ ap (λ (x : State). Some (durable x)) moved
+  ended DiskFault new d0 d1 standing moved between c left = between.left c left
+  ended _ new d0 d1 standing moved between c left = (standing (λ z. absurd (cc z))).each c left ∙ ap (λ (x : State). Some (durable x)) moved
+
+-- it was carried out
+pub obeys_step : (s new : State) (asked : Spoken) (d0 d1 : Disk) (input input' : Input) (ticks ticks' : Ticks) (g : Gathered) (payload : List ℕ) (a : Answer) → payload ≡ g.payload → Gathers asked.moment input input' ticks ticks' g → Answered s asked.request payload g.moment a → (a ≢ DiskFault → Standing d1 new)
+    → Moved s asked.request payload g.moment a new → Between s (reached s asked.request payload g.moment a) d0 d1 → Obeys s asked d0 d1 input input' ticks ticks' a
+obeys_step s new asked d0 d1 input input' ticks ticks' g payload a is gathers answered standing moved between = record {
+  outcome = carried (entry_of s asked.request payload g.moment a);
+  obeyed = (refl, subst (λ (x : List ℕ). IsPayload x input input') (sym is) gathers.payload, gathers.moment);
+  is = marked s asked.request payload g.moment a answered;
+  now = ended s asked.request payload g.moment a new d0 d1 standing moved between;
+  during = weaker d0 d1 (λ c b. StandsFor s (reached s asked.request payload g.moment a) c × (b ≡ d0.sent)) (λ c b. ((stands c ≡ Some (durable s)) ⊎ Ends s (carried (entry_of s asked.request payload g.moment a)) c) × (b ≡ d0.sent)) (λ c b left. (before_or_after s asked.request payload g.moment a c left.0, left.1)) between.during;
+}
+
+-- nothing was
+pub obeys_refused : (s : State) (asked : Spoken) (d : Disk) (input input' : Input) (ticks ticks' : Ticks) (a : Answer) → IsUngathered a input → Standing d s → Obeys s asked d d input input' ticks ticks' a
+obeys_refused s asked d input input' ticks ticks' a ungathered standing = record {
+  outcome = refused a;
+  obeyed = ungathered;
+  is = refl;
+  now = λ c left. standing.each c left;
+  during = started d (λ c b. ((stands c ≡ Some (durable s)) ⊎ Ends s (refused a) c) × (b ≡ d.sent));
+}
+
+pub ungathered_sendable : (a : Answer) (input : Input) → IsUngathered a input → a ≢ SendFault
+ungathered_sendable a input ungathered is = subst (λ (x : Answer). IsUngathered x input) is ungathered

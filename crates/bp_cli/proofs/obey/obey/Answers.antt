@@ -1,0 +1,18 @@
+use Rattle.bp_cli.proofs.Obeying.{obeys_step, obeys_refused, ungathered_sendable}
+use Rattle.bp_cli.proofs.StepLemmas.{answered_sendable}
+use Rattle.bp_cli.proofs.obey.obey.Goals as goal
+
+pub returns-in-Ok-clause-obeys : goal.returns-in-Ok-clause-obeys
+returns-in-Ok-clause-obeys g c told standing =
+    let e = c.step.ensures in
+    obeys_step c.args.desk.now.state c.step.new.self.state c.args.spoken.now (g.V.Vault.disk c.args.desk.now.vault) (g.V.Vault.disk c.step.new.self.vault) (g.S.Source.input c.args.source.now) (g.S.Source.input c.gather.new.source) (g.C.Clock.ticks c.args.clock.now) (g.C.Clock.ticks c.gather.new.clock)
+    c.in-Ok.field-0 c.bytes.result.now c.step.result c.bytes.ensures c.in-Ok.ensures.gathered e.answers (e.standing told) (e.moves told) (e.stops told)
+
+pub returns-in-Err-clause-obeys : goal.returns-in-Err-clause-obeys
+returns-in-Err-clause-obeys g c told standing = obeys_refused c.args.desk.now.state c.args.spoken.now (g.V.Vault.disk c.args.desk.now.vault) (g.S.Source.input c.args.source.now) (g.S.Source.input c.gather.new.source) (g.C.Clock.ticks c.args.clock.now) (g.C.Clock.ticks c.gather.new.clock) c.in-Err.answer c.in-Err.ensures.refused standing
+
+pub returns-in-Ok-clause-sendable : goal.returns-in-Ok-clause-sendable
+returns-in-Ok-clause-sendable g c = answered_sendable c.args.desk.now.state c.args.spoken.now.request _ _ c.step.result c.step.ensures.answers
+
+pub returns-in-Err-clause-sendable : goal.returns-in-Err-clause-sendable
+returns-in-Err-clause-sendable g c = ungathered_sendable c.in-Err.answer (g.S.Source.input c.args.source.now) c.in-Err.ensures.refused

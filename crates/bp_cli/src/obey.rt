@@ -1,0 +1,86 @@
+// A request is answered on a vault.
+ghost use Rattle.std.specs.Prelude.{◌≡◌, ◌≢◌, ◌⊎◌, false, MatchResult};
+ghost use Rattle.vault_disk.specs.Disk.{IsSame};
+ghost use Rattle.vault_disk.specs.Steps.{Rose};
+ghost use Rattle.desk_model.specs.State.{State, durable};
+ghost use Rattle.site_desk.specs.Stands.{Standing};
+ghost use Rattle.bp_cli.specs.Gather.{IsLimited};
+ghost use Rattle.bp_cli.specs.Runs.{Answers, Obeys, refusal_of};
+ghost use Rattle.bp_cli.specs.Words.{spoken};
+
+use crate::gather::{Gathered, gather};
+use crate::words::{Spoken, read_spoken};
+use pool_journal::JournalFault;
+use site_desk::Desk;
+use site_types::{Answer, Text, WordFault};
+use std::alloc::Global;
+use vault_disk::{Clock, Source, Vault};
+
+fn obey<V: Vault, S: Source, C: Clock>(
+    alloc: Global,
+    desk: &mut Desk<V>,
+    spoken: &Spoken,
+    source: &mut S,
+    clock: &mut C,
+) -> Answer
+    requires running { desk.old.stopped ≡ false }
+    requires limited { IsLimited spoken.now.moment }
+    ensures obeys { (V.disk desk.old.vault).tells → Standing (V.disk desk.old.vault) desk.old.state → Obeys desk.old.state spoken.now (V.disk desk.old.vault) (V.disk desk.new.vault) (S.input source.old) (S.input source.new) (C.ticks clock.old) (C.ticks clock.new) result }
+    ensures sendable { result ≢ Answer.SendFault }
+    ensures same { IsSame (V.disk desk.old.vault) (V.disk desk.new.vault) }
+    ensures disk_fault { result ≡ Answer.DiskFault → Rose (V.disk desk.old.vault).faults (V.disk desk.new.vault).faults }
+    ensures read_fault { result ≡ Answer.ReadFault → Rose (S.input source.old).faults (S.input source.new).faults }
+    ensures clock_fault { result ≡ Answer.ClockFault → Rose (C.ticks clock.old).faults (C.ticks clock.new).faults }
+{
+    match gather(alloc, spoken.moment, source, clock) {
+        Ok(Gathered { payload, moment }) => {
+            desk.step(alloc, &spoken.request, payload.bytes(), moment)
+        }
+        Err(answer) => answer,
+    }
+}
+
+// The answer where the vault can't be opened.
+fn refusal(fault: JournalFault) -> Answer
+    ensures { result ≡ refusal_of fault }
+{
+    match fault {
+        JournalFault::NoMemory => Answer::OutOfMemory,
+        JournalFault::DiskFault => Answer::DiskFault,
+        JournalFault::NotAVault { offset } => Answer::NotAVault { offset },
+    }
+}
+
+/// Answers what these words ask for, on this vault.
+pub fn answered<V: Vault, S: Source, C: Clock>(
+    alloc: Global,
+    words: &[Text],
+    vault: &mut V,
+    source: &mut S,
+    clock: &mut C,
+) -> Answer
+    ensures answers { (s : State) → (V.disk vault.old).tells → Standing (V.disk vault.old) s → Answers (durable s) words.now (V.disk vault.old) (V.disk vault.new) (S.input source.old) (S.input source.new) (C.ticks clock.old) (C.ticks clock.new) result }
+    ensures sendable { result ≢ Answer.SendFault }
+    ensures bad_words { MatchResult (spoken words.now) (λ _. Unit {0}) (λ index. (result ≡ Answer.BadRequest index) ⊎ (result ≡ Answer.OutOfMemory)) }
+    ensures same { IsSame (V.disk vault.old) (V.disk vault.new) }
+    ensures disk_fault { result ≡ Answer.DiskFault → Rose (V.disk vault.old).faults (V.disk vault.new).faults }
+    ensures read_fault { result ≡ Answer.ReadFault → Rose (S.input source.old).faults (S.input source.new).faults }
+    ensures clock_fault { result ≡ Answer.ClockFault → Rose (C.ticks clock.old).faults (C.ticks clock.new).faults }
+{
+    let spoken = match read_spoken(alloc, words) {
+        Ok(spoken) => spoken,
+        Err(WordFault::Bad { index }) => return Answer::BadRequest { index },
+        Err(WordFault::NoMemory) => return Answer::OutOfMemory,
+    };
+    match Desk::open_vault(alloc, &mut *vault) {
+        Ok(mut desk) => {
+            let answer = obey(alloc, &mut desk, &spoken, source, clock);
+            let _vault = desk.close();
+            answer
+        }
+        Err(refused) => {
+            let (_vault, fault) = refused;
+            refusal(fault)
+        }
+    }
+}
