@@ -1,11 +1,12 @@
--- A request is answered on a vault that was lent.
+-- A request is answered on a vault.
 use Rattle.std.proofs.Common.{◌≡◌, ◌⊎◌, inl, inr, ⊎_elim, ℕ, List, refl, sym, ◌∙◌, ap, subst}
 use Rattle.std.specs.Prelude.{Some, Option, Result, Ok, Err}
 use Rattle.std.specs.Result.{result_ok}
-use Rattle.std.specs.Borrow.{GName}
 use Rattle.site_types.specs.declared.answer.Answer.{Answer}
 use Rattle.site_types.specs.declared.answer.Answer.TheVariants.{Done, OutOfMemory, BadRequest, Exists, Unknown, InUse, BadLifecycle, Inactive, WindowClosed, AboveHigh, UnitFull, Needed, Short, NoJob, Unaligned, TooMany, ChainBroken, Damaged, DiskFault, ReadFault, SendFault, ClockFault, NotAVault, BadStream}
-use Rattle.vault_disk.specs.Disk.{Disk, Image, During, IsSame}
+use Rattle.site_types.specs.declared.request.WordFault.{WordFault}
+use Rattle.site_types.specs.declared.request.WordFault.TheVariants as word
+use Rattle.vault_disk.specs.Disk.{Disk, Image, During}
 use Rattle.vault_disk.specs.Input.{Input}
 use Rattle.vault_disk.specs.Ticks.{Ticks}
 use Rattle.vault_disk.proofs.Moments.{started, goes_on}
@@ -14,13 +15,9 @@ use Rattle.pool_journal.specs.declared.fault.JournalFault.TheVariants as journal
 use Rattle.desk_model.specs.State.{State, durable}
 use Rattle.site_desk.specs.Desk.{IsFaultOf}
 use Rattle.site_desk.specs.Stands.{opened, stands, Standing, Opens}
-use Rattle.bp_cli.specs.Words.{spoken}
-use Rattle.bp_cli.specs.Runs.{Outcome, refused, carried, IsAsked, IsObeyed, Ends, Obeys, Answers, refusal_of}
+use Rattle.bp_cli.specs.Words.{spoken, IsSpoken}
+use Rattle.bp_cli.specs.Runs.{Outcome, refused, carried, IsAsked, IsObeyed, Ends, Obeys, Answers, refusal_of, word_refusal_of}
 use Rattle.bp_cli.specs.declared.words.Spoken.{Spoken}
-
--- the same object, seen through what it was lent as
-pub same_under : (d0 d1 : Disk) (p0 p1 : List GName) → d1.place ≡ d0.place → IsSame (record d0 { place = p0 }) (record d1 { place = p1 }) → IsSame d0 d1
-same_under d0 d1 p0 p1 place same = record { place = place; tells = same.tells; told = same.told; sent = same.sent; send_faults = same.send_faults; faults = same.faults }
 
 some_same : (a b : State) → Some a ≡ Some b → a ≡ b
 some_same a b e = cc
@@ -32,6 +29,10 @@ asked_of words asked seen input input' ticks ticks' (refused ClockFault) words_a
 asked_of words asked seen input input' ticks ticks' (refused (TooMany kind count limit)) words_ask obeyed = obeyed
 asked_of words asked seen input input' ticks ticks' (refused _) words_ask obeyed = absurd obeyed
 asked_of words asked seen input input' ticks ticks' (carried e) words_ask obeyed = record { asked = asked; words_ask = words_ask; request = obeyed.0; payload = obeyed.1; moment = obeyed.2 }
+
+pub asked_words : (words : List (List ℕ)) (seen : Image) (input input' : Input) (ticks ticks' : Ticks) (fault : WordFault) → IsSpoken (Err fault) (spoken words) → IsAsked words seen input input' ticks ticks' (refused (word_refusal_of fault))
+asked_words words seen input input' ticks ticks' (word.Bad index) is = is
+asked_words words seen input input' ticks ticks' word.NoMemory is = tt
 
 asked_fault : (words : List (List ℕ)) (seen : Image) (input input' : Input) (ticks ticks' : Ticks) (fault : JournalFault) → IsFaultOf (opened seen) fault → IsAsked words seen input input' ticks ticks' (refused (refusal_of fault))
 asked_fault words seen input input' ticks ticks' journal.NoMemory is = tt
@@ -48,8 +49,8 @@ answers_untouched s words d input input' ticks ticks' a asked standing = record 
   during = started d (λ c b. ((stands c ≡ Some (durable s)) ⊎ Ends (durable s) (refused a) c) × (b ≡ d.sent));
 }
 
-module _ (s : State) (words : List (List ℕ)) (d0 d1 : Disk) (p0 p1 : List GName) (standing : Standing d0 s) (reads : d0.may_leave d0.seen)
-    (opens : Opens (record d0 { place = p0 }) (record d1 { place = p1 })) (sent : d1.sent ≡ d0.sent) where
+module _ (s : State) (words : List (List ℕ)) (d0 d1 : Disk) (standing : Standing d0 s) (reads : d0.may_leave d0.seen)
+    (opens : Opens d0 d1) (sent : d1.sent ≡ d0.sent) where
   at_start : (c : Image) → d0.may_leave c ⊎ (stands c ≡ stands d0.seen) → stands c ≡ Some (durable s)
   at_start c = ⊎_elim (standing.each c) (λ same. same ∙ standing.each d0.seen reads)
 
@@ -70,11 +71,11 @@ module _ (s : State) (words : List (List ℕ)) (d0 d1 : Disk) (p0 p1 : List GNam
   }
 
   -- the request was answered
-  pub answers_opened : (asked : Spoken) (state : State) (d2 : Disk) (p2 : List GName) (input input' : Input) (ticks ticks' : Ticks) (a : Answer) → spoken words ≡ Ok asked → opened d0.seen ≡ Ok state
-      → Obeys state asked (record d1 { place = p1 }) (record d2 { place = p2 }) input input' ticks ticks' a → Answers (durable s) words d0 d2 input input' ticks ticks' a
-  answers_opened asked state d2 p2 input input' ticks ticks' a words_ask state_is obeys' =
+  pub answers_opened : (asked : Spoken) (state : State) (d2 : Disk) (input input' : Input) (ticks ticks' : Ticks) (a : Answer) → spoken words ≡ Ok asked → opened d0.seen ≡ Ok state
+      → Obeys state asked d1 d2 input input' ticks ticks' a → Answers (durable s) words d0 d2 input input' ticks ticks' a
+  answers_opened asked state d2 input input' ticks ticks' a words_ask state_is obeys' =
       let same : state ≡ durable s = some_same state (durable s) (sym (ap (λ (r : Result State ℕ). result_ok r) state_is) ∙ standing.each d0.seen reads) in
-      let obeys = subst (λ (x : State). Obeys x asked (record d1 { place = p1 }) (record d2 { place = p2 }) input input' ticks ticks' a) same obeys' in
+      let obeys = subst (λ (x : State). Obeys x asked d1 d2 input input' ticks ticks' a) same obeys' in
       let o : Outcome = obeys.outcome in
       record {
         outcome = o;
@@ -84,7 +85,3 @@ module _ (s : State) (words : List (List ℕ)) (d0 d1 : Disk) (p0 p1 : List GNam
         during = goes_on d0 d1 d2 (λ c b. ((stands c ≡ Some (durable s)) ⊎ Ends (durable s) o c) × (b ≡ d0.sent)) (opening o)
             (record { later = obeys.during.later; each = λ t c b le left. ⊎_elim (λ was. inl was) (λ now. inr (now.0, now.1 ∙ sent)) (obeys.during.each t c b le left) });
       }
-
--- what is known of a value is known of its equal
-pub at_equal : {A : Type 0} (P : A → Type 0) (a b : A) → P a → b ≡ a → P b
-at_equal P a b here is = subst P (sym is) here

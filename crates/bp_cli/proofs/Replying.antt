@@ -1,6 +1,7 @@
 -- The reply to what was answered.
 use Rattle.std.proofs.Common.{◌≡◌, ◌≢◌, ◌⊎◌, inl, inr, ⊎_elim, ℕ, List, ◌++◌, refl, sym, ◌∙◌, ap, subst, arith, append_assoc}
 use Rattle.std.specs.Prelude.{Some, Option, Result, Ok, Err, MatchResult}
+use Rattle.std.specs.Borrow.{GName}
 use Rattle.site_types.specs.Answers.{number_of, text_of, NeedsMemory}
 use Rattle.site_types.specs.declared.answer.Answer.{Answer}
 use Rattle.site_types.specs.declared.answer.Answer.TheVariants.{OutOfMemory}
@@ -63,8 +64,8 @@ module _ (s : State) (words : List (List ℕ)) (d0 d1 d2 : Disk) (input input' :
       stops = λ c b left. ⊎_elim (λ was. let at = only c b was in inl (standing.each c at.0, at.1)) (λ covered. covered) (all_along.each d0.moment c b (omega arith) left);
     }
 
-  pub ran : (a : Answer) → Answers (durable s) words d0 d1 input input' ticks ticks' a → Replies a d1 d2 status → Ran (durable s) words d0 d2 input input' ticks ticks' status
-  ran a answers replies = ⊎_elim as_said for_memory replies.is
+  ran_on : (a : Answer) → Answers (durable s) words d0 d1 input input' ticks ticks' a → Replies a d1 d2 status → Ran (durable s) words d0 d2 input input' ticks ticks' status
+  ran_on a answers replies = ⊎_elim as_said for_memory replies.is
     where
       as_said : replies.sent ≡ a → Ran (durable s) words d0 d2 input input' ticks ticks' status
       as_said is =
@@ -80,3 +81,12 @@ module _ (s : State) (words : List (List ℕ)) (d0 d1 d2 : Disk) (input input' :
           (weaker d0 d1 (λ c b. ((stands c ≡ Some (durable s)) ⊎ Ends (durable s) answers.outcome c) × (b ≡ d0.sent)) (λ c b. ((stands c ≡ Some (durable s)) ⊎ Ends (durable s) (refused OutOfMemory) c) × (b ≡ d0.sent)) (λ c b left. (inl (⊎_elim (λ was. was) (before c) left.0), left.1)) answers.during)
           replies.result (subst (λ (x : Answer). Sends (text_of x) d1 d2 replies.result) is.0 replies.sends)
           (subst (λ (x : Answer). MatchResult replies.result (λ _. status ≡ number_of x) (λ _. status ≡ 20)) is.0 replies.status_is)
+
+  -- the machine was lent to what answered
+  pub ran : (a : Answer) (p0 p1 : List GName) → Answers (durable s) words (record d0 { place = p0 }) (record d1 { place = p1 }) input input' ticks ticks' a → Replies a d1 d2 status → Ran (durable s) words d0 d2 input input' ticks ticks' status
+  ran a p0 p1 answers replies =
+      ran_on a (record { outcome = answers.outcome; asked = answers.asked; is = answers.is; now = answers.now; during = record { later = answers.during.later; each = answers.during.each } }) replies
+
+-- what is known of a value is known of its equal
+pub at_equal : {A : Type 0} (P : A → Type 0) (a b : A) → P a → b ≡ a → P b
+at_equal P a b here is = subst P (sym is) here

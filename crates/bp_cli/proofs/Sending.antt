@@ -1,11 +1,12 @@
 -- A text is sent.
-use Rattle.std.proofs.Common.{◌≡◌, ◌⊎◌, ℕ, List, subst}
+use Rattle.std.proofs.Common.{◌≡◌, ◌⊎◌, inl, inr, ⊎_elim, ◌∙◌, ap, ℕ, List, subst}
 use Rattle.std.specs.Prelude.{Result, Ok, Err, MatchResult}
 use Rattle.site_types.specs.Answers.{number_of, text_of, NeedsMemory}
 use Rattle.site_types.specs.declared.answer.Answer.{Answer}
-use Rattle.site_types.specs.declared.answer.Answer.TheVariants.{OutOfMemory}
+use Rattle.site_types.specs.declared.answer.Answer.TheVariants.{OutOfMemory, BadRequest}
 use Rattle.vault_disk.specs.Disk.{Disk}
 use Rattle.vault_disk.specs.Steps.{Sends}
+use Rattle.bp_cli.specs.declared.words.Spoken.{Spoken}
 use Rattle.bp_cli.specs.Runs.{Replies, Delivers}
 
 -- what a send of a text delivered
@@ -22,3 +23,9 @@ replies_so a sent text number old new status is text_is number_is delivers = rec
   sends = subst (λ (l : List ℕ). Sends l old new delivers.result) text_is delivers.sends;
   status_is = subst (λ (n : ℕ). MatchResult delivers.result (λ _. status ≡ n) (λ _. status ≡ 20)) number_is delivers.status_is;
 }
+
+-- the status where the words are bad
+pub bad_status : (r : Result Spoken ℕ) (a : Answer) (status : ℕ) → MatchResult r (λ _. Unit {0}) (λ i. (a ≡ BadRequest i) ⊎ (a ≡ OutOfMemory)) → (status ≡ number_of a) ⊎ ((status ≡ 1) ⊎ (status ≡ 20))
+    → MatchResult r (λ _. Unit {0}) (λ _. (status ≡ 2) ⊎ ((status ≡ 1) ⊎ (status ≡ 20)))
+bad_status (Ok v) a status bad is = tt
+bad_status (Err i) a status bad is = ⊎_elim (λ a_is. ⊎_elim (λ n. inl (n ∙ ap number_of a_is)) (λ other. inr other) is) (λ a_is. ⊎_elim (λ n. inr (inl (n ∙ ap number_of a_is))) (λ other. inr other) is) bad

@@ -3,6 +3,8 @@ use Rattle.std.specs.Prelude.{◌≡◌, ◌≢◌, ◌⊎◌, ℕ, List, ◌++�
 use Rattle.site_types.specs.Answers.{number_of, text_of, NeedsMemory}
 use Rattle.site_types.specs.declared.answer.Answer.{Answer}
 use Rattle.site_types.specs.declared.answer.Answer.TheVariants.{OutOfMemory, BadRequest, TooMany, DiskFault, ReadFault, ClockFault, NotAVault}
+use Rattle.site_types.specs.declared.request.WordFault.{WordFault}
+use Rattle.site_types.specs.declared.request.WordFault.TheVariants as words
 use Rattle.vault_disk.specs.Disk.{Disk, Image, During}
 use Rattle.vault_disk.specs.Steps.{Sends}
 use Rattle.vault_disk.specs.Input.{Input}
@@ -52,6 +54,11 @@ IsAsked words seen input input' ticks ticks' (carried e) = IsCarried words input
 abbrev pub IsObeyed : Spoken → Input → Input → Ticks → Ticks → Outcome → Type 0
 IsObeyed asked input input' ticks ticks' (refused answer) = IsUngathered answer input
 IsObeyed asked input input' ticks ticks' (carried e) = (e.request ≡ asked.request) × IsPayload e.payload input input' × IsMoment asked.moment e.moment ticks ticks'
+
+-- what is answered to words that ask for nothing
+abbrev pub word_refusal_of : WordFault → Answer
+word_refusal_of (words.Bad index) = BadRequest index
+word_refusal_of words.NoMemory = OutOfMemory
 
 -- what is answered where the vault can't be opened
 abbrev pub refusal_of : JournalFault → Answer

@@ -5,7 +5,7 @@ ghost use Rattle.vault_disk.specs.Steps.{Rose};
 ghost use Rattle.desk_model.specs.State.{State, durable};
 ghost use Rattle.site_desk.specs.Stands.{Standing};
 ghost use Rattle.bp_cli.specs.Gather.{IsLimited};
-ghost use Rattle.bp_cli.specs.Runs.{Answers, Obeys, refusal_of};
+ghost use Rattle.bp_cli.specs.Runs.{Answers, Obeys, refusal_of, word_refusal_of};
 ghost use Rattle.bp_cli.specs.Words.{spoken};
 
 use crate::gather::{Gathered, gather};
@@ -40,6 +40,16 @@ fn obey<V: Vault, S: Source, C: Clock>(
     }
 }
 
+// The answer to words that ask for nothing.
+fn word_refusal(fault: WordFault) -> Answer
+    ensures { result ≡ word_refusal_of fault }
+{
+    match fault {
+        WordFault::Bad { index } => Answer::BadRequest { index },
+        WordFault::NoMemory => Answer::OutOfMemory,
+    }
+}
+
 // The answer where the vault can't be opened.
 fn refusal(fault: JournalFault) -> Answer
     ensures { result ≡ refusal_of fault }
@@ -51,36 +61,34 @@ fn refusal(fault: JournalFault) -> Answer
     }
 }
 
-/// Answers what these words ask for, on this vault.
+/// Answers what these words ask for, on this vault, and hands it back.
 pub fn answered<V: Vault, S: Source, C: Clock>(
     alloc: Global,
     words: &[Text],
-    vault: &mut V,
+    vault: V,
     source: &mut S,
     clock: &mut C,
-) -> Answer
-    ensures answers { (s : State) → (V.disk vault.old).tells → Standing (V.disk vault.old) s → Answers (durable s) words.now (V.disk vault.old) (V.disk vault.new) (S.input source.old) (S.input source.new) (C.ticks clock.old) (C.ticks clock.new) result }
-    ensures sendable { result ≢ Answer.SendFault }
-    ensures bad_words { MatchResult (spoken words.now) (λ _. Unit {0}) (λ index. (result ≡ Answer.BadRequest index) ⊎ (result ≡ Answer.OutOfMemory)) }
-    ensures same { IsSame (V.disk vault.old) (V.disk vault.new) }
-    ensures disk_fault { result ≡ Answer.DiskFault → Rose (V.disk vault.old).faults (V.disk vault.new).faults }
-    ensures read_fault { result ≡ Answer.ReadFault → Rose (S.input source.old).faults (S.input source.new).faults }
-    ensures clock_fault { result ≡ Answer.ClockFault → Rose (C.ticks clock.old).faults (C.ticks clock.new).faults }
+) -> (V, Answer)
+    ensures answers { (s : State) → (V.disk vault).tells → Standing (V.disk vault) s → Answers (durable s) words.now (V.disk vault) (V.disk result.0) (S.input source.old) (S.input source.new) (C.ticks clock.old) (C.ticks clock.new) result.1 }
+    ensures sendable { result.1 ≢ Answer.SendFault }
+    ensures bad_words { MatchResult (spoken words.now) (λ _. Unit {0}) (λ index. (result.1 ≡ Answer.BadRequest index) ⊎ (result.1 ≡ Answer.OutOfMemory)) }
+    ensures same { IsSame (V.disk vault) (V.disk result.0) }
+    ensures disk_fault { result.1 ≡ Answer.DiskFault → Rose (V.disk vault).faults (V.disk result.0).faults }
+    ensures read_fault { result.1 ≡ Answer.ReadFault → Rose (S.input source.old).faults (S.input source.new).faults }
+    ensures clock_fault { result.1 ≡ Answer.ClockFault → Rose (C.ticks clock.old).faults (C.ticks clock.new).faults }
 {
     let spoken = match read_spoken(alloc, words) {
         Ok(spoken) => spoken,
-        Err(WordFault::Bad { index }) => return Answer::BadRequest { index },
-        Err(WordFault::NoMemory) => return Answer::OutOfMemory,
+        Err(fault) => return (vault, word_refusal(fault)),
     };
-    match Desk::open_vault(alloc, &mut *vault) {
+    match Desk::open_vault(alloc, vault) {
         Ok(mut desk) => {
             let answer = obey(alloc, &mut desk, &spoken, source, clock);
-            let _vault = desk.close();
-            answer
+            (desk.close(), answer)
         }
         Err(refused) => {
-            let (_vault, fault) = refused;
-            refusal(fault)
+            let (vault, fault) = refused;
+            (vault, refusal(fault))
         }
     }
 }

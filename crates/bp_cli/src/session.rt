@@ -70,6 +70,6 @@ pub fn run<M: Machine, S: Source, C: Clock>(
     ensures send_fault { result ≡ 20 → Rose (M.disk machine.old).send_faults (M.disk machine.new).send_faults }
     ensures clock_fault { result ≡ 21 → Rose (C.ticks clock.old).faults (C.ticks clock.new).faults }
 {
-    let answer = answered(alloc, words, machine, source, clock);
+    let (machine, answer) = answered(alloc, words, machine, source, clock);
     reply(alloc, machine, &answer)
 }

@@ -1,0 +1,18 @@
+use Rattle.std.proofs.Common.{rules, sym, subst}
+use Rattle.site_types.specs.declared.answer.Answer.{Answer}
+use Rattle.desk_model.specs.State.{durable}
+use Rattle.bp_cli.specs.Runs.{Answers, word_refusal_of}
+use Rattle.bp_cli.proofs.Opened.{answers_untouched, answers_unopened, answers_opened, asked_words}
+use Rattle.bp_cli.proofs.obey.answered.Goals as goal
+
+pub returns-in-Err-clause-answers : goal.returns-in-Err-clause-answers
+returns-in-Err-clause-answers g c s told standing =
+    let asked = asked_words c.args.words.now (g.V.Vault.disk c.args.vault).seen (g.S.Source.input c.args.source.now) (g.S.Source.input c.args.source.now) (g.C.Clock.ticks c.args.clock.now) (g.C.Clock.ticks c.args.clock.now) c.in-Err.fault c.in-Err.ensures.spoken in
+    subst (λ (a : Answer). Answers (durable s) c.args.words.now (g.V.Vault.disk c.args.vault) (g.V.Vault.disk c.args.vault) (g.S.Source.input c.args.source.now) (g.S.Source.input c.args.source.now) (g.C.Clock.ticks c.args.clock.now) (g.C.Clock.ticks c.args.clock.now) a) (sym c.word_refusal.ensures)
+    (answers_untouched s c.args.words.now (g.V.Vault.disk c.args.vault) (g.S.Source.input c.args.source.now) (g.S.Source.input c.args.source.now) (g.C.Clock.ticks c.args.clock.now) (g.C.Clock.ticks c.args.clock.now) (word_refusal_of c.in-Err.fault) asked standing)
+
+pub returns-clause-answers : goal.returns-clause-answers
+returns-clause-answers g c s told standing =
+    let o = c.in-Err-open_vault.ensures in
+    subst (λ (a : Answer). Answers (durable s) c.args.words.now (g.V.Vault.disk c.args.vault) (g.V.Vault.disk c.in-Err-open_vault.refused.0) (g.S.Source.input c.args.source.now) (g.S.Source.input c.args.source.now) (g.C.Clock.ticks c.args.clock.now) (g.C.Clock.ticks c.args.clock.now) a) (sym c.refusal.ensures)
+    (answers_unopened s c.args.words.now (g.V.Vault.disk c.args.vault) (g.V.Vault.disk c.in-Err-open_vault.refused.0) standing (g.met.V.Vault.reads_count c.args.vault told) (o.stops told) o.same.sent c.in-Err-open_vault.refused.1 (g.S.Source.input c.args.source.now) (g.S.Source.input c.args.source.now) (g.C.Clock.ticks c.args.clock.now) (g.C.Clock.ticks c.args.clock.now) (o.not_a_vault told))
