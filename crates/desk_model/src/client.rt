@@ -1,8 +1,9 @@
 // The clients, by name, and the greatest time of the images of each so far.
-ghost use Rattle.std.specs.Prelude.{◌≡◌, ℕ, ◌+◌, ◌≤◌, ◌++◌, max, IfOk, OnOk};
+ghost use Rattle.std.specs.Prelude.{◌≡◌, ℕ, ◌+◌, ◌≤◌, ◌++◌, [], max, IfOk, OnOk};
 ghost use Rattle.desk_model.specs.Limits.{last_moment};
 ghost use Rattle.desk_model.specs.Site.{Client, client_named, raise_last};
-ghost use Rattle.desk_model.specs.Step.{last_of};
+ghost use Rattle.desk_model.specs.Step.{last_of, last_time, new_time};
+ghost use Rattle.desk_model.specs.Plain.{plain_state};
 
 use site_types::{Name, NoMemory};
 use std::alloc::Global;
@@ -54,7 +55,7 @@ impl PlainClient {
 }
 
 /// The client's last id time, 0 for one that isn't among these.
-pub fn last_of(clients: &[PlainClient], name: &Name) -> u64
+fn last_of(clients: &[PlainClient], name: &Name) -> u64
     ensures value { result ≡ last_of (client_named name.now clients.now) }
     ensures range { result ≤ last_moment }
 {
@@ -64,6 +65,21 @@ pub fn last_of(clients: &[PlainClient], name: &Name) -> u64
         }
     }
     0
+}
+
+/// The greatest time of the client's images so far. A plain desk has no open backups.
+pub fn last_time(clients: &[PlainClient], client: &Name) -> u64
+    ensures value { result ≡ last_time client.now (plain_state clients.now [] []) }
+    ensures range { result ≤ last_moment }
+{
+    last_of(clients, client)
+}
+
+/// The time of a backup of the client that is begun at this moment.
+pub fn new_time(clients: &[PlainClient], client: &Name, moment: u64) -> u64
+    ensures { result ≡ new_time client.now moment (plain_state clients.now [] []) }
+{
+    moment.max(last_time(clients, client) + 1)
 }
 
 fn push_copies(

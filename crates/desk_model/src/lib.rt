@@ -5,3 +5,7 @@
 mod client;
 mod image;
 mod piece;
+mod plain;
+mod refusal;
+
+pub use plain::PlainDesk;
