@@ -1,11 +1,9 @@
 -- Walks over clients and images.
-use Rattle.std.proofs.Common.{◌≡◌, ℕ, ◌+◌, ◌<◌, Bool, true, false, List, [], ◌∷◌, ◌++◌, length, take, drop, get_or, refl, sym, ◌∙◌, ap, arith}
-use Rattle.std.specs.Prelude.{if◌then◌else◌, Option, Some, None, option_map, find}
+use Rattle.std.proofs.Common.{◌≡◌, Bool, true, false, List, [], ◌∷◌, refl, ◌∙◌, ap}
+use Rattle.std.specs.Prelude.{if◌then◌else◌, Option, Some, option_map, find}
 use Rattle.site_types.specs.declared.answer.Answer.{Answer}
-use Rattle.std.specs.Str.{bytes_eq}
-use Rattle.desk_model.specs.Site.{Client, client_named}
 use Rattle.desk_model.specs.State.{Image, is_before, with_image}
-use Rattle.desk_model.specs.Step.{last_of, first_refusal}
+use Rattle.desk_model.specs.Step.{first_refusal}
 
 pub with_image_here : (new : Image) (image : Image) (images : List Image) → is_before new.entry.id image.entry.id ≡ true → with_image new (image ∷ images) ≡ new ∷ image ∷ images
 with_image_here new image images is = (λ i. if is i then new ∷ image ∷ images else image ∷ with_image new images)

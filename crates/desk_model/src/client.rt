@@ -82,6 +82,7 @@ pub fn new_time(clients: &[PlainClient], client: &Name, moment: u64) -> u64
     moment.max(last_time(clients, client) + 1)
 }
 
+// Appends copies of clients.
 fn push_copies(
     alloc: Global,
     clients: &[PlainClient],
@@ -95,6 +96,7 @@ fn push_copies(
     Ok(())
 }
 
+// Appends copies of clients, with this one's last id time raised to this time.
 fn push_raised(
     alloc: Global,
     clients: &[PlainClient],

@@ -51,6 +51,7 @@ fn is_before(a: &BackupId, b: &BackupId) -> bool
     }
 }
 
+// The index at which the image is put among these.
 #[tactic(auto, using(crate::proofs::ListLemmas::with_image_here, crate::proofs::ListLemmas::with_image_later))]
 fn place_of(image: &PlainImage, images: &[PlainImage]) -> usize
     ensures within { result ≤ length images.now }
