@@ -4,3 +4,4 @@ pub mod Pieces
 pub mod State
 pub mod Step
 pub mod Replay
+pub mod Plain

@@ -1,5 +1,5 @@
 -- The site: its zone, and the lists of its units, clients, lifecycles and policies.
-use Rattle.std.specs.Prelude.{◌≡◌, ℕ, ℤ, Bool, true, false, ◌-◌, ◌==◌, if◌then◌else◌, List, [], ◌∷◌, codes, length, Option, Some, None, slice_get, find, max}
+use Rattle.std.specs.Prelude.{ℕ, ℤ, Bool, true, false, ◌-◌, ◌==◌, if◌then◌else◌, List, [], ◌∷◌, codes, Option, Some, None, slice_get, find, max}
 use Rattle.std.specs.Str.{bytes_eq}
 use Rattle.std.specs.Cmp.Lexicographic.{slice_cmp}
 use Rattle.std.specs.Ordering.{match_ordering, nat_cmp}

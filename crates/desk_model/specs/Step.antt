@@ -1,5 +1,5 @@
 -- What each request answers, and what it makes of the state.
-use Rattle.std.specs.Prelude.{◌≡◌, ℕ, ◌+◌, ◌-◌, Bool, true, false, is_none, nat_lt, ◌==◌, if◌then◌else◌, List, [], ◌∷◌, ◌++◌, length, map, codes, Option, Some, None, option_map, option_and_then, unwrap_or, slice_get, find, fold, max}
+use Rattle.std.specs.Prelude.{ℕ, ◌+◌, Bool, true, false, is_none, nat_lt, if◌then◌else◌, List, [], ◌∷◌, ◌++◌, length, map, codes, Option, Some, None, option_and_then, unwrap_or, find, fold, max}
 use Rattle.std.specs.Str.{bytes_eq}
 use Rattle.site_types.specs.Ids.{id_text}
 use Rattle.site_types.specs.declared.id.BackupId.{BackupId}
@@ -9,7 +9,6 @@ use Rattle.site_types.specs.declared.lifecycle.Operation.{Operation}
 use Rattle.site_types.specs.declared.lifecycle.OpState.{OpState}
 use Rattle.site_types.specs.declared.lifecycle.OpState.TheVariants.{Waiting, Complete}
 use Rattle.site_types.specs.declared.image.ImageRecord.{ImageRecord}
-use Rattle.site_types.specs.declared.image.CopyRecord.{CopyRecord}
 use Rattle.site_types.specs.declared.image.Kind.{Kind}
 use Rattle.site_types.specs.declared.image.Kind.TheVariants.{Full, Differential, Cumulative}
 use Rattle.site_types.specs.declared.image.Base.{Base}
@@ -20,7 +19,7 @@ use Rattle.site_types.specs.declared.answer.Answer.TheVariants.{Done, Unknown, T
 use Rattle.site_types.specs.declared.request.Request.{Request}
 use Rattle.site_types.specs.declared.request.Request.TheVariants.{Backup}
 use Rattle.desk_model.specs.Limits.{last_moment}
-use Rattle.desk_model.specs.Site.{Site, Policy, Version, Client, disk0, adhoc, manual, unit_named, client_named, policy_named, version_named, lifecycle_named, raise_last, Lifecycle}
+use Rattle.desk_model.specs.Site.{Site, Policy, Version, Client, adhoc, manual, unit_named, client_named, policy_named, version_named, lifecycle_named, raise_last, Lifecycle}
 use Rattle.desk_model.specs.Pieces.{pieces}
 use Rattle.desk_model.specs.State.{State, Image, Job, backup, duplication, restore, with_image, with_stored}
 

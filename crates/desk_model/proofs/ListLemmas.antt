@@ -1,0 +1,20 @@
+-- Walks over clients and images.
+use Rattle.std.proofs.Common.{◌≡◌, Bool, true, false, List, [], ◌∷◌, refl, ◌∙◌, ap}
+use Rattle.std.specs.Prelude.{if◌then◌else◌, Option, Some, option_map, find}
+use Rattle.site_types.specs.declared.answer.Answer.{Answer}
+use Rattle.desk_model.specs.State.{Image, is_before, with_image}
+use Rattle.desk_model.specs.Step.{first_refusal}
+
+pub with_image_here : (new : Image) (image : Image) (images : List Image) → is_before new.entry.id image.entry.id ≡ true → with_image new (image ∷ images) ≡ new ∷ image ∷ images
+with_image_here new image images is = (λ i. if is i then new ∷ image ∷ images else image ∷ with_image new images)
+
+pub with_image_later : (new : Image) (image : Image) (images : List Image) → is_before new.entry.id image.entry.id ≡ false → with_image new (image ∷ images) ≡ image ∷ with_image new images
+with_image_later new image images is = (λ i. if is i then new ∷ image ∷ images else image ∷ with_image new images)
+
+chosen : (b : Bool) (r : Bool × Answer) (o : Option (Bool × Answer)) → (if b then Some r.1 else option_map (λ (x : Bool × Answer). x.1) o) ≡ option_map (λ (x : Bool × Answer). x.1) (if b then Some r else o)
+chosen true r o = refl
+chosen false r o = refl
+
+pub first_refusal_found : (refusals : List (Bool × Answer)) → first_refusal refusals ≡ option_map (λ (r : Bool × Answer). r.1) (find (λ (r : Bool × Answer). r.0) refusals)
+first_refusal_found [] = refl
+first_refusal_found (r ∷ rs) = ap (λ (o : Option Answer). if r.0 then Some r.1 else o) (first_refusal_found rs) ∙ chosen r.0 r (find (λ (x : Bool × Answer). x.0) rs)
