@@ -119,7 +119,8 @@ class Order(Traced):
             with self.subTest(payload=payload):
                 self.desk.put(HELLO)
                 every, before = self.backs_up(payload, vault.read(HELLO))
-                self.assertEqual(before, [Step("sync")], "an opening syncs once and writes nothing")
+                # (the folder too: a stop may have come after its file was made and before it was synced)
+                self.assertEqual(before, [Step("sync"), Step("sync folder")], "an opening syncs and writes nothing")
                 whats = [step.what for step in every]
                 self.assertLess(whats.index("sync"), whats.index("read"), "the journal was read before it was synced")
 
@@ -140,7 +141,7 @@ class Order(Traced):
         self.desk.put(vault.journal(vault.Image(b"b", vault.LATEST, b"x", 1)))
         answer, lines = self.trace("@1 bpbackup client=b", payload=b"x")
         self.assertEqual(answer.status, 15)
-        self.assertEqual([step.what for step in joined(self.steps(lines))], ["sync", "reply"])
+        self.assertEqual([step.what for step in joined(self.steps(lines))], ["sync", "sync folder", "reply"])
 
     def test_the_journal_is_opened_once(self):
         self.desk.put(HELLO)
@@ -191,7 +192,7 @@ class Failing(Traced):
 
     def test_a_sync_that_fails(self):
         # The opening's, the record's and the gate's.
-        self.assertEqual(self.each_failing("fsync,fdatasync", "EIO", HELLO), 3)
+        self.assertEqual(self.each_failing("fsync,fdatasync", "EIO", HELLO), 4)
 
     def test_a_sync_that_fails_on_a_new_vault(self):
         # Those of the opening, the header and the folder too.

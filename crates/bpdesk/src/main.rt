@@ -36,6 +36,7 @@ fn main(rt: HostRuntime) -> ExitCode {
     };
     if folder.is_empty() {
         let _ = eprintln!(rt; "bpdesk: the folder has no name");
+        let _ = println!(rt; "disk fault");
         return ExitCode::from(Answer::DiskFault.number());
     }
     let Ok(words) = texts(rt.alloc(), arguments) else {
