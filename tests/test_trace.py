@@ -191,7 +191,7 @@ class Failing(Traced):
         self.fail("there is no end to these calls")
 
     def test_a_sync_that_fails(self):
-        # The opening's, the record's and the gate's.
+        # The opening's, its folder's, the record's and the gate's.
         self.assertEqual(self.each_failing("fsync,fdatasync", "EIO", HELLO), 4)
 
     def test_a_sync_that_fails_on_a_new_vault(self):

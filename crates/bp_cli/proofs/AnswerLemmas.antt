@@ -1,5 +1,5 @@
 -- Answers by their numbers.
-use Rattle.std.proofs.Common.{◌≡◌, refl, arith}
+use Rattle.std.proofs.Common.{◌≡◌, ◌≢◌, ℕ, refl, arith}
 use Rattle.site_types.specs.Answers.{number_of}
 use Rattle.site_types.specs.declared.answer.Answer.{Answer}
 use Rattle.site_types.specs.declared.answer.Answer.TheVariants.{Done, OutOfMemory, BadRequest, Exists, Unknown, InUse, BadLifecycle, Inactive, WindowClosed, AboveHigh, UnitFull, Needed, Short, NoJob, Unaligned, TooMany, ChainBroken, Damaged, DiskFault, ReadFault, SendFault, ClockFault, NotAVault, BadStream}
@@ -19,3 +19,7 @@ is_send_fault _ is = absurd (omega (arith, is))
 pub is_clock_fault : (a : Answer) → number_of a ≡ 21 → a ≡ ClockFault
 is_clock_fault ClockFault is = refl
 is_clock_fault _ is = absurd (omega (arith, is))
+
+pub not_bad : (a : Answer) → ((i : ℕ) → a ≢ BadRequest i) → number_of a ≡ 2 → ⊥
+not_bad (BadRequest i) good is = good i refl
+not_bad _ good is = omega (arith, is)

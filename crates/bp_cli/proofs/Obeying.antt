@@ -14,7 +14,7 @@ use Rattle.desk_model.specs.Replay.{Mark, plain, memory, fault, Entry, answer_of
 use Rattle.site_desk.specs.Desk.{Answered, Moved, reached}
 use Rattle.site_desk.specs.Stands.{stands, Standing, StandsFor, Between}
 use Rattle.bp_cli.specs.Gather.{Gathers, IsPayload, IsUngathered}
-use Rattle.bp_cli.specs.Runs.{refused, carried, EndsBy, Ends, Obeys}
+use Rattle.bp_cli.specs.Runs.{refused, carried, IsOfRequest, EndsBy, Ends, Obeys}
 use Rattle.bp_cli.specs.declared.gather.Gathered.{Gathered}
 use Rattle.bp_cli.specs.declared.words.Spoken.{Spoken}
 
@@ -63,5 +63,14 @@ obeys_refused s asked d input input' ticks ticks' a ungathered standing = record
   during = started d (λ c b. ((stands c ≡ Some (durable s)) ⊎ Ends s (refused a) c) × (b ≡ d.sent));
 }
 
-pub ungathered_sendable : (a : Answer) (input : Input) → IsUngathered a input → a ≢ SendFault
-ungathered_sendable a input ungathered is = subst (λ (x : Answer). IsUngathered x input) is ungathered
+pub ungathered_of_request : (a : Answer) (input : Input) → IsUngathered a input → IsOfRequest a
+ungathered_of_request (BadRequest index) input ungathered = ungathered
+ungathered_of_request (NotAVault offset) input ungathered = ungathered
+ungathered_of_request SendFault input ungathered = ungathered
+ungathered_of_request _ input ungathered = tt
+
+pub none_unsent : (a : Answer) → IsOfRequest a → a ≢ SendFault
+none_unsent a of_request is = subst IsOfRequest is of_request
+
+pub none_bad : (a : Answer) → IsOfRequest a → (index : ℕ) → a ≢ BadRequest index
+none_bad a of_request index is = subst IsOfRequest is of_request

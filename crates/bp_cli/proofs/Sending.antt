@@ -1,5 +1,5 @@
 -- A text is sent.
-use Rattle.std.proofs.Common.{◌≡◌, ◌⊎◌, inl, inr, ⊎_elim, ◌∙◌, ap, ℕ, List, subst}
+use Rattle.std.proofs.Common.{◌≡◌, ◌≢◌, ◌⊎◌, inl, inr, ⊎_elim, sym, ◌∙◌, ap, arith, ℕ, List, subst}
 use Rattle.std.specs.Prelude.{Result, Ok, Err, MatchResult}
 use Rattle.site_types.specs.Answers.{number_of, text_of, NeedsMemory}
 use Rattle.site_types.specs.declared.answer.Answer.{Answer}
@@ -7,6 +7,7 @@ use Rattle.site_types.specs.declared.answer.Answer.TheVariants.{OutOfMemory, Bad
 use Rattle.vault_disk.specs.Disk.{Disk}
 use Rattle.vault_disk.specs.Steps.{Sends}
 use Rattle.bp_cli.specs.declared.words.Spoken.{Spoken}
+use Rattle.bp_cli.proofs.AnswerLemmas.{not_bad}
 use Rattle.bp_cli.specs.Runs.{Replies, Delivers}
 
 -- what a send of a text delivered
@@ -24,8 +25,8 @@ replies_so a sent text number old new status is text_is number_is delivers = rec
   status_is = subst (λ (n : ℕ). MatchResult delivers.result (λ _. status ≡ n) (λ _. status ≡ 20)) number_is delivers.status_is;
 }
 
--- the status where the words are bad
-pub bad_status : (r : Result Spoken ℕ) (a : Answer) (status : ℕ) → MatchResult r (λ _. Unit {0}) (λ i. (a ≡ BadRequest i) ⊎ (a ≡ OutOfMemory)) → (status ≡ number_of a) ⊎ ((status ≡ 1) ⊎ (status ≡ 20))
-    → MatchResult r (λ _. Unit {0}) (λ _. (status ≡ 2) ⊎ ((status ≡ 1) ⊎ (status ≡ 20)))
-bad_status (Ok v) a status bad is = tt
+-- the status where the words are bad, and where they aren't
+pub bad_status : (r : Result Spoken ℕ) (a : Answer) (status : ℕ) → MatchResult r (λ _. (i : ℕ) → a ≢ BadRequest i) (λ i. (a ≡ BadRequest i) ⊎ (a ≡ OutOfMemory)) → (status ≡ number_of a) ⊎ ((status ≡ 1) ⊎ (status ≡ 20))
+    → MatchResult r (λ _. status ≢ 2) (λ _. (status ≡ 2) ⊎ ((status ≡ 1) ⊎ (status ≡ 20)))
+bad_status (Ok v) a status good is = λ two. ⊎_elim (λ n. not_bad a good (sym n ∙ two)) (λ other. ⊎_elim (λ one. absurd (omega (arith, one, two))) (λ unsent. absurd (omega (arith, unsent, two))) other) is
 bad_status (Err i) a status bad is = ⊎_elim (λ a_is. ⊎_elim (λ n. inl (n ∙ ap number_of a_is)) (λ other. inr other) is) (λ a_is. ⊎_elim (λ n. inr (inl (n ∙ ap number_of a_is))) (λ other. inr other) is) bad

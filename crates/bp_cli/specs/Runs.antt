@@ -2,7 +2,7 @@
 use Rattle.std.specs.Prelude.{◌≡◌, ◌≢◌, ◌⊎◌, ℕ, List, ◌++◌, Some, Result, Ok, Err, MatchResult}
 use Rattle.site_types.specs.Answers.{number_of, text_of, NeedsMemory}
 use Rattle.site_types.specs.declared.answer.Answer.{Answer}
-use Rattle.site_types.specs.declared.answer.Answer.TheVariants.{OutOfMemory, BadRequest, TooMany, DiskFault, ReadFault, ClockFault, NotAVault}
+use Rattle.site_types.specs.declared.answer.Answer.TheVariants.{OutOfMemory, BadRequest, TooMany, DiskFault, ReadFault, SendFault, ClockFault, NotAVault}
 use Rattle.site_types.specs.declared.request.WordFault.{WordFault}
 use Rattle.site_types.specs.declared.request.WordFault.TheVariants as words
 use Rattle.vault_disk.specs.Disk.{Disk, Image, During}
@@ -65,6 +65,13 @@ abbrev pub refusal_of : JournalFault → Answer
 refusal_of journal.NoMemory = OutOfMemory
 refusal_of journal.DiskFault = DiskFault
 refusal_of (journal.NotAVault offset) = NotAVault offset
+
+-- what a request on an open vault may be answered
+abbrev pub IsOfRequest : Answer → Type 0
+IsOfRequest (BadRequest index) = ⊥
+IsOfRequest (NotAVault offset) = ⊥
+IsOfRequest SendFault = ⊥
+IsOfRequest _ = Unit {0}
 
 -- the image stands for the state that a mark leaves; after a fault it may be the one before
 abbrev pub EndsBy : State → Entry → Mark → Image → Type 0

@@ -1,11 +1,11 @@
 // A request is answered on a vault.
-ghost use Rattle.std.specs.Prelude.{◌≡◌, ◌≢◌, ◌⊎◌, false, MatchResult};
+ghost use Rattle.std.specs.Prelude.{◌≡◌, ◌≢◌, ◌⊎◌, ℕ, false, MatchResult};
 ghost use Rattle.vault_disk.specs.Disk.{IsSame};
 ghost use Rattle.vault_disk.specs.Steps.{Rose};
 ghost use Rattle.desk_model.specs.State.{State, durable};
 ghost use Rattle.site_desk.specs.Stands.{Standing};
 ghost use Rattle.bp_cli.specs.Gather.{IsLimited};
-ghost use Rattle.bp_cli.specs.Runs.{Answers, Obeys, refusal_of, word_refusal_of};
+ghost use Rattle.bp_cli.specs.Runs.{Answers, IsOfRequest, Obeys, refusal_of, word_refusal_of};
 ghost use Rattle.bp_cli.specs.Words.{spoken};
 
 use crate::gather::{Gathered, gather};
@@ -26,7 +26,7 @@ fn obey<V: Vault, S: Source, C: Clock>(
     requires running { desk.old.stopped ≡ false }
     requires limited { IsLimited spoken.now.moment }
     ensures obeys { (V.disk desk.old.vault).tells → Standing (V.disk desk.old.vault) desk.old.state → Obeys desk.old.state spoken.now (V.disk desk.old.vault) (V.disk desk.new.vault) (S.input source.old) (S.input source.new) (C.ticks clock.old) (C.ticks clock.new) result }
-    ensures sendable { result ≢ Answer.SendFault }
+    ensures of_request { IsOfRequest result }
     ensures same { IsSame (V.disk desk.old.vault) (V.disk desk.new.vault) }
     ensures disk_fault { result ≡ Answer.DiskFault → Rose (V.disk desk.old.vault).faults (V.disk desk.new.vault).faults }
     ensures read_fault { result ≡ Answer.ReadFault → Rose (S.input source.old).faults (S.input source.new).faults }
@@ -71,7 +71,7 @@ pub fn answered<V: Vault, S: Source, C: Clock>(
 ) -> (V, Answer)
     ensures answers { (s : State) → (V.disk vault).tells → Standing (V.disk vault) s → Answers (durable s) words.now (V.disk vault) (V.disk result.0) (S.input source.old) (S.input source.new) (C.ticks clock.old) (C.ticks clock.new) result.1 }
     ensures sendable { result.1 ≢ Answer.SendFault }
-    ensures bad_words { MatchResult (spoken words.now) (λ _. Unit {0}) (λ index. (result.1 ≡ Answer.BadRequest index) ⊎ (result.1 ≡ Answer.OutOfMemory)) }
+    ensures bad_words { MatchResult (spoken words.now) (λ _. (index : ℕ) → result.1 ≢ Answer.BadRequest index) (λ index. (result.1 ≡ Answer.BadRequest index) ⊎ (result.1 ≡ Answer.OutOfMemory)) }
     ensures same { IsSame (V.disk vault) (V.disk result.0) }
     ensures disk_fault { result.1 ≡ Answer.DiskFault → Rose (V.disk vault).faults (V.disk result.0).faults }
     ensures read_fault { result.1 ≡ Answer.ReadFault → Rose (S.input source.old).faults (S.input source.new).faults }

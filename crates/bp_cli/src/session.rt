@@ -64,7 +64,7 @@ pub fn run<M: Machine, S: Source, C: Clock>(
     clock: &mut C,
 ) -> u8
     ensures ran { (s : State) → (M.disk machine.old).tells → Standing (M.disk machine.old) s → Ran (durable s) words.now (M.disk machine.old) (M.disk machine.new) (S.input source.old) (S.input source.new) (C.ticks clock.old) (C.ticks clock.new) result }
-    ensures bad_words { MatchResult (spoken words.now) (λ _. Unit {0}) (λ _. (result ≡ 2) ⊎ ((result ≡ 1) ⊎ (result ≡ 20))) }
+    ensures bad_words { MatchResult (spoken words.now) (λ _. result ≢ 2) (λ _. (result ≡ 2) ⊎ ((result ≡ 1) ⊎ (result ≡ 20))) }
     ensures disk_fault { result ≡ 18 → Rose (M.disk machine.old).faults (M.disk machine.new).faults }
     ensures read_fault { result ≡ 19 → Rose (S.input source.old).faults (S.input source.new).faults }
     ensures send_fault { result ≡ 20 → Rose (M.disk machine.old).send_faults (M.disk machine.new).send_faults }

@@ -1,5 +1,5 @@
-use Rattle.bp_cli.proofs.Obeying.{obeys_step, obeys_refused, ungathered_sendable}
-use Rattle.bp_cli.proofs.StepLemmas.{answered_sendable}
+use Rattle.bp_cli.proofs.Obeying.{obeys_step, obeys_refused, ungathered_of_request}
+use Rattle.bp_cli.proofs.StepLemmas.{answered_of_request}
 use Rattle.bp_cli.proofs.obey.obey.Goals as goal
 
 pub returns-in-Ok-clause-obeys : goal.returns-in-Ok-clause-obeys
@@ -11,8 +11,8 @@ returns-in-Ok-clause-obeys g c told standing =
 pub returns-in-Err-clause-obeys : goal.returns-in-Err-clause-obeys
 returns-in-Err-clause-obeys g c told standing = obeys_refused c.args.desk.now.state c.args.spoken.now (g.V.Vault.disk c.args.desk.now.vault) (g.S.Source.input c.args.source.now) (g.S.Source.input c.gather.new.source) (g.C.Clock.ticks c.args.clock.now) (g.C.Clock.ticks c.gather.new.clock) c.in-Err.answer c.in-Err.ensures.refused standing
 
-pub returns-in-Ok-clause-sendable : goal.returns-in-Ok-clause-sendable
-returns-in-Ok-clause-sendable g c = answered_sendable c.args.desk.now.state c.args.spoken.now.request _ _ c.step.result c.step.ensures.answers
+pub returns-in-Ok-clause-of_request : goal.returns-in-Ok-clause-of_request
+returns-in-Ok-clause-of_request g c = answered_of_request c.args.desk.now.state c.args.spoken.now.request _ _ c.step.result c.step.ensures.answers
 
-pub returns-in-Err-clause-sendable : goal.returns-in-Err-clause-sendable
-returns-in-Err-clause-sendable g c = ungathered_sendable c.in-Err.answer (g.S.Source.input c.args.source.now) c.in-Err.ensures.refused
+pub returns-in-Err-clause-of_request : goal.returns-in-Err-clause-of_request
+returns-in-Err-clause-of_request g c = ungathered_of_request c.in-Err.answer (g.S.Source.input c.args.source.now) c.in-Err.ensures.refused
