@@ -8,3 +8,6 @@ mod session;
 mod words;
 
 pub use session::run;
+
+#[cfg(test)]
+mod tests;

@@ -1,0 +1,139 @@
+use crate::run;
+use crate::words::{Spoken, read_spoken};
+use desk_model::PlainDesk;
+use site_types::{Answer, NoMemory, Text};
+use std::alloc::{AllocError, Global};
+use vault_disk::{MemoryClock, MemoryMachine, MemorySource};
+
+fn words_of(alloc: Global, line: &str) -> Result<Vec<Text>, NoMemory> {
+    let mut words = Vec::new(alloc);
+    for word in line.split(' ') {
+        words.push(Text::new(alloc, word.as_bytes())?)?;
+    }
+    Ok(words)
+}
+
+fn status_of(alloc: Global, machine: &mut MemoryMachine, line: &str) -> Result<u8, NoMemory> {
+    let words = words_of(alloc, line)?;
+    let mut source = MemorySource::new(alloc, b"hello", &[])?;
+    let mut clock = MemoryClock::new(alloc, &[7000], &[])?;
+    Ok(run(alloc, &words, machine, &mut source, &mut clock))
+}
+
+#[test]
+fn requests_have_their_replies(rt: HostRuntime) -> Result<(), NoMemory> {
+    let rows: [(&str, u8, &str); 9] = [
+        ("@1000 bpbackup client=alpha", 0, "alpha_1000\n"),
+        ("@1000 bpbackup client=alpha", 0, "alpha_1001\n"),
+        ("bpbackup client=alpha", 0, "alpha_7000\n"),
+        ("@250000000000 bpbackup client=a", 0, "a_250000000000\n"),
+        (
+            "@250000000000 bpbackup client=a",
+            15,
+            "too many time: 250000000000 of 250000000000\n",
+        ),
+        ("bpbackup client=a client=a", 2, "bad request at 2\n"),
+        ("bpbackup", 2, "bad request at 1\n"),
+        ("bpbackup client=a/b", 2, "bad request at 1\n"),
+        ("frobnicate", 2, "bad request at 0\n"),
+    ];
+    let mut machine = MemoryMachine::new(rt.alloc(), &[])?;
+    let mut sent = Vec::new(rt.alloc());
+    for (line, status, reply) in rows {
+        assert_eq!(rt; status_of(rt.alloc(), &mut machine, line)?, status);
+        sent.extend_from_slice(reply.as_bytes())?;
+        assert_eq!(rt; machine.sent(), sent.as_slice());
+    }
+    Ok(())
+}
+
+#[test]
+fn a_journal_of_zeros_is_no_vault(rt: HostRuntime) -> Result<(), NoMemory> {
+    let line = "@1000 bpbackup client=alpha";
+    let mut zeros = MemoryMachine::with_file(rt.alloc(), 0, &[0u8; 18])?;
+    assert_eq!(rt; status_of(rt.alloc(), &mut zeros, line)?, 22);
+    assert_eq!(rt; zeros.sent(), b"not a vault at 0\n".as_slice());
+    let mut fresh = MemoryMachine::with_file(rt.alloc(), 0, &[0u8; 17])?;
+    assert_eq!(rt; status_of(rt.alloc(), &mut fresh, line)?, 0);
+    assert_eq!(rt; fresh.sent(), b"alpha_1000\n".as_slice());
+    Ok(())
+}
+
+#[test]
+fn a_call_that_fails_is_answered(rt: HostRuntime) -> Result<(), NoMemory> {
+    for failing in 1..40 {
+        let mut machine = MemoryMachine::new(rt.alloc(), &[failing])?;
+        let status = status_of(rt.alloc(), &mut machine, "@1000 bpbackup client=alpha")?;
+        let reply: &[u8] = match status {
+            0 => b"alpha_1000\n",
+            18 => b"disk fault\n",
+            _ => b"",
+        };
+        assert!(rt; status == 0 || status == 18 || status == 20);
+        assert_eq!(rt; machine.sent(), reply);
+        assert_eq!(rt; status == 0, failing > machine.calls());
+    }
+    Ok(())
+}
+
+#[test]
+fn a_source_or_a_clock_that_fails_is_answered(rt: HostRuntime) -> Result<(), NoMemory> {
+    let rows: [(u64, u64, u8, &str); 5] = [
+        (1, 0, 19, "read fault\n"),
+        (2, 0, 19, "read fault\n"),
+        (3, 0, 0, "alpha_7000\n"),
+        (0, 1, 21, "clock fault\n"),
+        (0, 2, 0, "alpha_7000\n"),
+    ];
+    let words = words_of(rt.alloc(), "bpbackup client=alpha")?;
+    for (read, tick, status, reply) in rows {
+        let mut machine = MemoryMachine::new(rt.alloc(), &[])?;
+        let mut source = MemorySource::new(rt.alloc(), b"hello", &[read])?;
+        let mut clock = MemoryClock::new(rt.alloc(), &[7000], &[tick])?;
+        assert_eq!(rt;
+            run(rt.alloc(), &words, &mut machine, &mut source, &mut clock),
+            status
+        );
+        assert_eq!(rt; machine.sent(), reply.as_bytes());
+    }
+    Ok(())
+}
+
+fn text_of(alloc: Global, answer: &Answer) -> Result<Vec<u8>, NoMemory> {
+    let mut text = Vec::new(alloc);
+    answer.write_text(alloc, &mut text)?;
+    Ok(text)
+}
+
+#[test]
+fn the_desk_answers_as_the_plain_program(rt: HostRuntime) -> Result<(), NoMemory> {
+    let lines = [
+        "@1000 bpbackup client=web",
+        "@1000 bpbackup client=web",
+        "@1000 bpbackup client=db",
+        "@5 bpbackup client=web",
+        "@250000000000 bpbackup client=a",
+        "@250000000000 bpbackup client=a",
+        "@0 bpbackup client=db",
+        "@2000 bpbackup client=web",
+    ];
+    let mut plain = PlainDesk::new(rt.alloc());
+    let mut machine = MemoryMachine::new(rt.alloc(), &[])?;
+    let mut sent = Vec::new(rt.alloc());
+    for line in lines {
+        let words = words_of(rt.alloc(), line)?;
+        let status = status_of(rt.alloc(), &mut machine, line)?;
+        let Ok(Spoken {
+            moment: Some(moment),
+            request,
+        }) = read_spoken(rt.alloc(), &words)
+        else {
+            return Err(AllocError);
+        };
+        let wanted = plain.step(rt.alloc(), &request, b"hello", moment)?;
+        sent.extend_from_slice(&text_of(rt.alloc(), &wanted)?)?;
+        assert_eq!(rt; status, wanted.number());
+        assert_eq!(rt; machine.sent(), sent.as_slice());
+    }
+    Ok(())
+}
