@@ -1,7 +1,7 @@
 use crate::run;
-use crate::words::{Spoken, read_spoken};
+use crate::words::read_spoken;
 use desk_model::PlainDesk;
-use site_types::{Answer, NoMemory, Text};
+use site_types::{Answer, NoMemory, Request, Text};
 use std::alloc::{AllocError, Global};
 use vault_disk::{MemoryClock, MemoryMachine, MemorySource};
 
@@ -105,6 +105,33 @@ fn text_of(alloc: Global, answer: &Answer) -> Result<Vec<u8>, NoMemory> {
     Ok(text)
 }
 
+#[derive(Drop)]
+struct Wanted {
+    status: u8,
+    text: Vec<u8>,
+}
+
+fn step_of(
+    alloc: Global,
+    plain: &mut PlainDesk,
+    request: &Request,
+    moment: u64,
+) -> Result<Wanted, NoMemory> {
+    let answer = plain.step(alloc, request, b"hello", moment)?;
+    Ok(Wanted {
+        status: answer.number(),
+        text: text_of(alloc, &answer)?,
+    })
+}
+
+fn wanted_of(alloc: Global, plain: &mut PlainDesk, line: &str) -> Result<Wanted, NoMemory> {
+    let words = words_of(alloc, line)?;
+    match read_spoken(alloc, &words) {
+        Ok(spoken) => step_of(alloc, plain, &spoken.request, spoken.moment.unwrap_or(7000)),
+        Err(_) => Err(AllocError),
+    }
+}
+
 #[test]
 fn the_desk_answers_as_the_plain_program(rt: HostRuntime) -> Result<(), NoMemory> {
     let lines = [
@@ -121,18 +148,10 @@ fn the_desk_answers_as_the_plain_program(rt: HostRuntime) -> Result<(), NoMemory
     let mut machine = MemoryMachine::new(rt.alloc(), &[])?;
     let mut sent = Vec::new(rt.alloc());
     for line in lines {
-        let words = words_of(rt.alloc(), line)?;
         let status = status_of(rt.alloc(), &mut machine, line)?;
-        let Ok(Spoken {
-            moment: Some(moment),
-            request,
-        }) = read_spoken(rt.alloc(), &words)
-        else {
-            return Err(AllocError);
-        };
-        let wanted = plain.step(rt.alloc(), &request, b"hello", moment)?;
-        sent.extend_from_slice(&text_of(rt.alloc(), &wanted)?)?;
-        assert_eq!(rt; status, wanted.number());
+        let wanted = wanted_of(rt.alloc(), &mut plain, line)?;
+        sent.extend_from_slice(&wanted.text)?;
+        assert_eq!(rt; status, wanted.status);
         assert_eq!(rt; machine.sent(), sent.as_slice());
     }
     Ok(())
