@@ -1,8 +1,8 @@
 -- The date of a day is the date that has it.
-use Rattle.std.proofs.Common.{◌≡◌, ◌+◌, ◌-◌, ◌≤◌, ◌<◌, ℕ, zero, suc, ℤ, pos, negsuc, ◌-ℤ◌, ◌≤ℤ◌, Bool, true, false, not, ◌&&◌, List, refl, sym, ap, subst, ◌∙◌, inl, inr, arith, unsigned_abs}
+use Rattle.std.proofs.Common.{◌≡◌, ◌+◌, ◌-◌, ◌≤◌, ◌<◌, ℕ, zero, suc, ℤ, pos, negsuc, ◌-ℤ◌, ◌≤ℤ◌, Bool, not, ◌&&◌, List, refl, ap, ◌∙◌, inl, inr, arith, unsigned_abs}
 use Rattle.std.specs.List.{list_any}
 use Rattle.std.proofs.lemmas.Bool.Decides.{leb_tells}
-use Rattle.jiff_core.specs.Calendar.{days_from_civil, days_in_month, days_of_months, day_count, day_of_year}
+use Rattle.jiff_core.specs.Calendar.{days_from_civil, days_in_month, days_of_months, day_of_year}
 use Rattle.jiff_core.specs.Date.{epoch_day}
 use Rattle.jiff_core.specs.declared.civil.date.Date.{Date}
 use Rattle.jiff_core.proofs.CalendarLemmas.{days_from_civil-day_count, day_count-day_of_year, days_of_months_more, days_of_months_mono}

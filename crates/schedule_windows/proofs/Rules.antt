@@ -1,12 +1,11 @@
 -- A rule that was read has the offsets of its text.
-use Rattle.std.proofs.Common.{◌≡◌, ℕ, ℤ, pos, neg_ℤ, ◌≤ℤ◌, Bool, true, false, cond, IsTrue, List, Option, Some, None, option_map, refl, sym, ap, ◌∙◌, arith, rules}
+use Rattle.std.proofs.Common.{◌≡◌, ℕ, ℤ, pos, neg_ℤ, Bool, true, false, IsTrue, List, Option, Some, None, option_map, refl, sym, ap, ◌∙◌, rules}
 use Rattle.std.specs.Prelude.{◌&&◌, ◌||◌, int_lt, if◌then◌else◌}
-use Rattle.jiff_core.specs.Calendar.{IsWithin}
 use Rattle.jiff_core.specs.Timestamp.{nanos_of_seconds}
 use Rattle.jiff_core.specs.declared.offset.Offset.{Offset}
 use Rattle.jiff_tz.specs.PosixDay.{is_rule_day}
 use Rattle.jiff_tz.specs.PosixReader.{read_whole}
-use Rattle.jiff_tz.specs.PosixRule.{first_nanosecond, last_nanosecond, int_same, in_window, saturating_add, rule_day, rule_nanos, utc_window, dst_at_by, match_some}
+use Rattle.jiff_tz.specs.PosixRule.{first_nanosecond, last_nanosecond, int_same, in_window, saturating_add, rule_nanos, utc_window, dst_at_by, match_some}
 use Rattle.jiff_tz.specs.PosixText.{day_time_view, dst_view, tz_view}
 use Rattle.jiff_tz.specs.Year.{year_of_nanos}
 use Rattle.jiff_tz.specs.declared.posix.Day.{Day}

@@ -1,15 +1,15 @@
 -- The offset of a rule stays the same within a year up to the next transition.
-use Rattle.std.proofs.Common.{◌≡◌, ◌+◌, ◌≤◌, ◌<◌, ◌/◌, ◌*◌, ℕ, zero, suc, ℤ, pos, ◌-ℤ◌, ◌≤ℤ◌, ◌<ℤ◌, Bool, true, false, cond, not, Option, Some, None, refl, sym, ap, subst, ◌∙◌, inl, inr, arith}
+use Rattle.std.proofs.Common.{◌≡◌, ◌+◌, ◌≤◌, ◌/◌, ◌*◌, ℕ, zero, suc, ℤ, pos, ◌-ℤ◌, ◌≤ℤ◌, ◌<ℤ◌, Bool, true, false, cond, not, Option, Some, None, refl, sym, ap, subst, ◌∙◌, inl, inr, arith}
 use Rattle.std.specs.Prelude.{◌&&◌, int_le, int_lt, if◌then◌else◌}
 use Rattle.std.proofs.lemmas.Bool.Decides.{leb_tells}
 use Rattle.std.proofs.lemmas.Int.{by_lt_z}
-use borrow.Author.Differences.{lt-true, lt-false, le-true, le-false, true-lt, false-lt, true-le, false-le}
+use borrow.Author.Differences.{lt-true, lt-false}
 use Rattle.jiff_core.specs.Calendar.{days_of_years}
 use Rattle.jiff_core.specs.Timestamp.{nanos_of_seconds}
 use Rattle.jiff_core.specs.declared.offset.Offset.{Offset}
 use Rattle.jiff_core.proofs.SignedLemmas.{signed_arith}
 use Rattle.jiff_tz.proofs.TzifLemmas.{le_yes, le_no}
-use Rattle.jiff_tz.specs.PosixRule.{in_window, ordered, transition_of, next_by, next_at, next_year, utc_window, dst_at_by, match_some}
+use Rattle.jiff_tz.specs.PosixRule.{in_window, ordered, transition_of, next_by, next_year, utc_window, dst_at_by, match_some}
 use Rattle.jiff_tz.specs.Year.{years_within, year_of_nanos}
 use Rattle.jiff_tz.specs.declared.info.OffsetInfo.{OffsetInfo}
 use Rattle.jiff_tz.specs.declared.posix.Dst.{Dst}
@@ -34,12 +34,12 @@ span_stays : (a b n k : ℤ) → n ≤ℤ k → (n <ℤ a → k <ℤ a) → (a �
 span_stays a b n k le first second = by_lt_z n a
     (λ under. let under_k = first under in rw (le_no a n under, le_no a k under_k) refl)
     (λ over.
-      let over_k : a ≤ℤ k = omega (arith, signed_arith) in
-      rw (le_yes a n over, le_yes a k over_k) (by_lt_z n b
-      (λ inside. let inside_k = second over inside in rw (lt_yes n b inside, lt_yes k b inside_k) refl)
-      (λ past.
-        let past_k : b ≤ℤ k = omega (arith, signed_arith) in
-        rw (lt_no n b past, lt_no k b past_k) refl)))
+    let over_k : a ≤ℤ k = omega (arith, signed_arith) in
+    rw (le_yes a n over, le_yes a k over_k) (by_lt_z n b
+    (λ inside. let inside_k = second over inside in rw (lt_yes n b inside, lt_yes k b inside_k) refl)
+    (λ past.
+    let past_k : b ≤ℤ k = omega (arith, signed_arith) in
+    rw (lt_no n b past, lt_no k b past_k) refl)))
 
 -- a window's state changes at its two ends alone
 window_stays : (a b n k : ℤ) → n ≤ℤ k → (n <ℤ (ordered (a, b)).0 → k <ℤ (ordered (a, b)).0) → ((ordered (a, b)).0 ≤ℤ n → n <ℤ (ordered (a, b)).1 → k <ℤ (ordered (a, b)).1) → in_window (a, b) k ≡ in_window (a, b) n
@@ -61,13 +61,13 @@ unfolding years_within
 years_within_mono zero a b h = omega arith
 years_within_mono (suc n) a b h = elim (leb_tells (days_of_years (suc n)) a) [
   | inl fits ↦ elim (leb_tells (days_of_years (suc n)) b) [
-      | inl also ↦ rw (fits.0, also.0) (omega arith)
-      | inr over ↦ let x = fits.1 in let y = over.1 in absurd (omega arith)
-    ]
+    | inl also ↦ rw (fits.0, also.0) (omega arith)
+    | inr over ↦ let x = fits.1 in let y = over.1 in absurd (omega arith)
+  ]
   | inr over ↦ elim (leb_tells (days_of_years (suc n)) b) [
-      | inl fits ↦ rw (over.0, fits.0) (let below = years_within-le n a in omega arith)
-      | inr also ↦ rw (over.0, also.0) (years_within_mono n a b h)
-    ]
+    | inl fits ↦ rw (over.0, fits.0) (let below = years_within-le n a in omega arith)
+    | inr also ↦ rw (over.0, also.0) (years_within_mono n a b h)
+  ]
 ]
 
 same_years : (a b : ℕ) → (pos a -ℤ pos 10000) ≡ (pos b -ℤ pos 10000) → a ≡ b
@@ -96,10 +96,9 @@ ends_ahead rule d y n next e =
     let w = utc_window d y rule.std_offset in
     let low = (ordered (utc_window d y rule.std_offset)).0 in
     let high = (ordered (utc_window d y rule.std_offset)).1 in
-    let by : Bool → Bool → Option (ℤ × OffsetInfo) = λ s t. if s then transition_of rule d w low else (if t then transition_of rule d w high else next_year rule d y) in
-    (
+    let by : Bool → Bool → Option (ℤ × OffsetInfo) = λ s t. if s then transition_of rule d w low else (if t then transition_of rule d w high else next_year rule d y) in (
       λ under. found_at rule d w low next (ap (λ s. by s (int_lt n high)) (sym (lt_yes n low under)) ∙ e),
-      λ over inside. found_at rule d w high next ((λ i. by (sym (lt_no n low over) i) (sym (lt_yes n high inside) i)) ∙ e)
+      λ over inside. found_at rule d w high next ((λ i. by (sym (lt_no n low over) i) (sym (lt_yes n high inside) i)) ∙ e),
     )
 
 seconds_stay : (std : Offset) (dst : Option Dst) (n k : ℤ) → ((d : Dst) → dst ≡ Some d → in_window (utc_window d (year_of_nanos k) std) k ≡ in_window (utc_window d (year_of_nanos n) std) n) → (match_some (dst_at_by std dst k) std (λ d. d.offset)).seconds ≡ (match_some (dst_at_by std dst n) std (λ d. d.offset)).seconds

@@ -1,5 +1,5 @@
 -- Numbers that are kept within their ranges.
-use Rattle.std.proofs.Common.{◌≡◌, ◌≤◌, ℕ, ℤ, pos, neg_ℤ, ◌≤ℤ◌, ◌<ℤ◌, int_lt, Bool, true, false, cond, IsTrue, [], refl, arith, rules}
+use Rattle.std.proofs.Common.{◌≡◌, ℤ, pos, neg_ℤ, ◌≤ℤ◌, int_lt, Bool, true, false, cond, IsTrue, [], refl, arith, rules}
 use Rattle.std.specs.Prelude.{if◌then◌else◌}
 use Rattle.std.proofs.lemmas.Grind.{merely}
 use Rattle.std.proofs.lemmas.Str.{IsUtf8-nil}
@@ -27,9 +27,9 @@ pub clamp_to-within : (low high z : ℤ) → low ≤ℤ z → z ≤ℤ high → 
 clamp_to-within low high z h k = elim (int_lt z low) as (λ b. int_lt z low ≡ b → cond b low (cond (int_lt high z) high z) ≡ z) [
   | true ↦ λ e. let below = lt-true z low e in absurd (omega (arith, signed_arith))
   | false ↦ λ e. elim (int_lt high z) as (λ b. int_lt high z ≡ b → cond b high z ≡ z) [
-      | true ↦ λ f. let above = lt-true high z f in absurd (omega (arith, signed_arith))
-      | false ↦ λ f. refl
-    ] refl
+    | true ↦ λ f. let above = lt-true high z f in absurd (omega (arith, signed_arith))
+    | false ↦ λ f. refl
+  ] refl
 ] refl
 
 pub offset_in_range : (s : ℤ) → IsWithin 93_599 (clamp_to (neg_ℤ (pos 93_599)) (pos 93_599) s)

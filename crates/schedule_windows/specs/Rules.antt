@@ -1,12 +1,10 @@
 -- The zone that the text of a POSIX rule stands for (POSIX, section 8.3, the variable TZ). Which texts are rules, and which
 -- offset a rule has at an instant, is what `jiff` states; here its reading of a text becomes the rule that it speaks of.
-use Rattle.std.specs.Prelude.{◌≡◌, ℕ, ℤ, pos, neg_ℤ, List, [], Bool, true, false, Option, Some, None, option_map, if◌then◌else◌}
+use Rattle.std.specs.Prelude.{ℤ, pos, neg_ℤ, option_map, if◌then◌else◌}
 use Rattle.jiff_core.specs.declared.offset.Offset.{Offset}
 use Rattle.jiff_tz.specs.PosixDay.{is_rule_day}
-use Rattle.jiff_tz.specs.PosixReader.{read_whole}
-use Rattle.jiff_tz.specs.PosixRule.{clamp_to, offset_at}
+use Rattle.jiff_tz.specs.PosixRule.{clamp_to}
 use Rattle.jiff_tz.specs.PosixText.{DstText, TzText}
-use Rattle.jiff_tz.specs.declared.abbreviation.Abbreviation.{Abbreviation}
 use Rattle.jiff_tz.specs.declared.posix.Day.{Day}
 use Rattle.jiff_tz.specs.declared.posix.Day.TheVariants.{JulianZero}
 use Rattle.jiff_tz.specs.declared.posix.DayTime.{DayTime}

@@ -7,6 +7,7 @@ use Rattle.site_types.specs.declared.schedule.Mode.TheVariants.{Frequency, Calen
 use Rattle.site_types.specs.declared.schedule.Schedule.{Schedule}
 use Rattle.schedule_windows.specs.declared.civil.Civil.{Civil}
 use Rattle.schedule_windows.specs.declared.schedule.Last.{Last}
+use Rattle.schedule_windows.specs.declared.week.WeekSpan.{WeekSpan}
 use Rattle.schedule_windows.specs.RunDays.{is_run_day}
 use Rattle.schedule_windows.specs.Weeks.{is_open, opened, spans}
 use Rattle.schedule_windows.specs.Zones.{civil_count}
@@ -26,6 +27,10 @@ abbrev pub comes_round : Mode → Option Last → ℕ → ℤ → Bool
 comes_round (Frequency seconds) last moment start = has_passed last seconds moment
 comes_round (Calendar items) last moment start = is_run_day items (int_div_euclid start (pos 86_400)) && is_before last start
 
--- a schedule is due: one of its windows is open, and it comes round in it
+-- it is due in one of its windows: the window is open, and the schedule comes round in it
+abbrev pub is_due_in : Schedule → Option Last → ℕ → Civil → WeekSpan → Bool
+is_due_in schedule last moment now w = is_open now w && comes_round schedule.mode last moment (opened now w)
+
+-- it is due in some of its windows
 abbrev pub is_due : Schedule → Option Last → ℕ → Civil → Bool
-is_due schedule last moment now = list_any (λ w. is_open now w && comes_round schedule.mode last moment (opened now w)) (spans schedule.windows)
+is_due schedule last moment now = list_any (is_due_in schedule last moment now) (spans schedule.windows)

@@ -46,6 +46,10 @@ is_open c w = nat_lt (since w (second_of_week c)) w.length
 abbrev pub opened : Civil → WeekSpan → ℤ
 opened c w = civil_count c -ℤ pos (since w (second_of_week c))
 
+-- that second, if the window is open
+abbrev pub start_if_open : Civil → WeekSpan → Option ℤ
+start_if_open c w = if is_open c w then Some (opened c w) else None
+
 -- the first of these windows that is open, where the first of them has number n
 abbrev pub first_open : ℕ → Civil → List WeekSpan → Option Opening
 first_open n c [] = None

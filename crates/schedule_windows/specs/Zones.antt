@@ -1,5 +1,5 @@
 -- Zones: how far a clock is ahead of UTC at a moment, and what it shows. Moments are seconds since 1970-01-01T00:00:00Z.
-use Rattle.std.specs.Prelude.{◌≤◌, ◌<◌, ℕ, ℤ, pos, neg_ℤ, ◌+ℤ◌, ◌*ℤ◌, ◌≤ℤ◌, List, Option, Some, None, unsigned_abs}
+use Rattle.std.specs.Prelude.{◌<◌, ℕ, ℤ, pos, neg_ℤ, ◌+ℤ◌, ◌*ℤ◌, List, Option, Some, None, unsigned_abs}
 use Rattle.std.specs.Int.{int_div_euclid, int_rem_euclid}
 use Rattle.jiff_core.specs.Calendar.{IsBetween}
 use Rattle.jiff_core.specs.Timestamp.{nanos_of_seconds}

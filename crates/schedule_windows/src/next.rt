@@ -1,4 +1,5 @@
-ghost use Rattle.std.specs.Prelude.{◌≡◌, ◌<◌, ◌≤◌, ◌+◌, ℕ, true, false, IsOk, IfOk};
+ghost use Rattle.std.specs.Prelude.{◌≡◌, ◌<◌, ◌≤◌, ◌+◌, ◌+ℤ◌, ℕ, pos, true, false, IsOk, IfOk};
+ghost use Rattle.jiff_core.specs.Calendar.{IsWithin};
 ghost use Rattle.schedule_windows.specs.Opens.{IsNextOpenIfAny, is_open_after, is_span_open};
 ghost use Rattle.schedule_windows.specs.Weeks.{spans};
 
@@ -15,7 +16,12 @@ const THURSDAY: i64 = 345_600;
 
 /// The least moment from this one on, and less than 1,209,600 seconds later, at which a window is open on the zone's clock.
 /// None exactly where there is none. Moments are seconds since 1970-01-01T00:00:00Z.
-pub fn next_open(_alloc: Global, windows: &Windows, zone: &Zone, moment: u64) -> Result<Option<u64>, NoMemory>
+pub fn next_open(
+    _alloc: Global,
+    windows: &Windows,
+    zone: &Zone,
+    moment: u64,
+) -> Result<Option<u64>, NoMemory>
     requires { moment ≤ 250_000_000_000 }
     ensures answers { IsOk result }
     ensures value { IfOk result (IsNextOpenIfAny windows.now zone.now moment) }
@@ -24,14 +30,23 @@ pub fn next_open(_alloc: Global, windows: &Windows, zone: &Zone, moment: u64) ->
     let mut at = moment;
     while at < end {
         let until = zone.same_offset_until(at, end);
-        let count = (at as i64 + zone.seconds_at(at) as i64 + THURSDAY) as u64;
-        let wait = wait_within(windows, count, until - at);
+        let wait = wait_within(windows, week_count(at, zone.seconds_at(at)), until - at);
         if wait < until - at {
             return Ok(Some(at + wait));
         }
         at = until;
     }
     Ok(None)
+}
+
+// The civil seconds at a moment from the beginning of the week of 1970-01-01 on.
+fn week_count(moment: u64, offset: i32) -> u64
+    requires moment { moment ≤ 250_001_209_600 }
+    requires offset { IsWithin 93_599 offset }
+    ensures value { pos result ≡ pos moment +ℤ offset +ℤ pos 345_600 }
+    ensures range { result ≤ 300_000_000_000 }
+{
+    (moment as i64 + offset as i64 + THURSDAY) as u64
 }
 
 // The least number of seconds, below the limit, after which a window is open, and else the limit. Seconds are counted from

@@ -1,13 +1,13 @@
-ghost use Rattle.std.specs.Prelude.{◌≡◌, pos, neg_ℤ};
+ghost use Rattle.std.specs.Prelude.{◌≡◌, ◌<◌, pos, neg_ℤ};
 ghost use Rattle.std.specs.Option.{ForSome};
 ghost use Rattle.jiff_core.specs.Calendar.{IsBetween};
-ghost use Rattle.schedule_windows.specs.Schedules.{has_passed, is_before, comes_round, is_due};
+ghost use Rattle.schedule_windows.specs.Schedules.{has_passed, is_before, comes_round, is_due_in, is_due};
 ghost use Rattle.schedule_windows.specs.Zones.{IsCivil};
 
 use crate::Civil;
 use crate::calendar::is_run_day;
 use crate::civil::civil_count;
-use crate::week::{second_of_week, since, span_at, span_count};
+use crate::week::{WeekSpan, span_at, span_count, start_if_open};
 use site_types::{Mode, Schedule};
 
 /// The latest image of a schedule for a client: its time in seconds since 1970-01-01T00:00:00Z, and what the zone's clock
@@ -25,16 +25,37 @@ pub fn due(schedule: &Schedule, last: Option<Last>, moment: u64, now: Civil) -> 
     requires last_civil { ForSome last (λ l. IsCivil l.civil) }
     ensures { result ≡ is_due schedule.now last moment now }
 {
-    let second = second_of_week(now);
     for index in 0..span_count(&schedule.windows) {
-        let span = span_at(&schedule.windows, index);
-        let ago = since(span, second);
-        let started = civil_count(now) - ago as i64;
-        if ago < span.length && comes_round(&schedule.mode, last, moment, started) {
+        if is_due_in(
+            schedule,
+            last,
+            moment,
+            now,
+            span_at(&schedule.windows, index),
+        ) {
             return true;
         }
     }
     false
+}
+
+// Whether it is due in this one of its windows.
+fn is_due_in(
+    schedule: &Schedule,
+    last: Option<Last>,
+    moment: u64,
+    now: Civil,
+    span: WeekSpan,
+) -> bool
+    requires opens { span.opens < 604_800 }
+    requires civil { IsCivil now }
+    requires last_civil { ForSome last (λ l. IsCivil l.civil) }
+    ensures { result ≡ is_due_in schedule.now last moment now span }
+{
+    match start_if_open(span, now) {
+        Some(started) => comes_round(&schedule.mode, last, moment, started),
+        None => false,
+    }
 }
 
 // Whether it comes round in a window that opened at this civil second.

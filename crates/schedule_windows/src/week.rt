@@ -1,6 +1,6 @@
-ghost use Rattle.std.specs.Prelude.{◌≡◌, ◌<◌, ◌≤◌, pos, neg_ℤ, Some, length, slice_get, ◌*◌};
+ghost use Rattle.std.specs.Prelude.{◌≡◌, ◌<◌, ◌≤◌, pos, neg_ℤ, IfSome, Some, length, slice_get, ◌*◌};
 ghost use Rattle.jiff_core.specs.Calendar.{IsBetween};
-ghost use Rattle.schedule_windows.specs.Weeks.{spans, window_span, weekday_of, second_of_week, since, first_open};
+ghost use Rattle.schedule_windows.specs.Weeks.{spans, window_span, weekday_of, second_of_week, since, start_if_open, first_open};
 ghost use Rattle.schedule_windows.specs.Zones.{IsCivil};
 
 use crate::Civil;
@@ -29,16 +29,27 @@ pub fn open_at(windows: &Windows, now: Civil) -> Option<Opening>
     requires counted { length (spans windows.now) < 4_294_967_296 }
     ensures { result ≡ first_open 0 now (spans windows.now) }
 {
-    let second = second_of_week(now);
     for index in 0..span_count(windows) {
-        let span = span_at(windows, index);
-        let ago = since(span, second);
-        if ago < span.length {
+        if let Some(started) = start_if_open(span_at(windows, index), now) {
             return Some(Opening {
                 window: index as u32,
-                started: civil_count(now) - ago as i64,
+                started,
             });
         }
+    }
+    None
+}
+
+// The civil second at which a window opened that is open now.
+pub(crate) fn start_if_open(span: WeekSpan, now: Civil) -> Option<i64>
+    requires opens { span.opens < 604_800 }
+    requires civil { IsCivil now }
+    ensures value { result ≡ start_if_open now span }
+    ensures range { IfSome result (λ s. IsBetween (neg_ℤ (pos 4_000_000)) (pos 250_600_000_000) s) }
+{
+    let ago = since(span, second_of_week(now));
+    if ago < span.length {
+        return Some(civil_count(now) - ago as i64);
     }
     None
 }
@@ -96,7 +107,7 @@ pub(crate) fn weekday_of(day: i64) -> u8
     (day + 4).rem_euclid(7) as u8
 }
 
-pub(crate) fn second_of_week(now: Civil) -> u32
+fn second_of_week(now: Civil) -> u32
     requires { IsCivil now }
     ensures value { result ≡ second_of_week now }
     ensures range { result < 604_800 }

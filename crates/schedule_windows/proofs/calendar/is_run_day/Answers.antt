@@ -1,4 +1,4 @@
-use Rattle.std.proofs.Common.{◌≡◌, ◌∙◌, sym, refl, true, false, w64}
+use Rattle.std.proofs.Common.{◌∙◌, sym, refl, true, false, w64}
 use Rattle.std.proofs.lemmas.Int.{to_z-of_z}
 use Rattle.std.specs.List.{list_any}
 use Rattle.schedule_windows.specs.RunDays.{year_month_day, excludes}

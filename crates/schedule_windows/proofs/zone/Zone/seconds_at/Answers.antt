@@ -1,4 +1,4 @@
-use Rattle.std.proofs.Common.{◌≡◌, ◌∙◌, ap, sym, subst, w32, ℤ, arith, FitsSigned}
+use Rattle.std.proofs.Common.{◌∙◌, ap, sym, subst, w32, arith, FitsSigned}
 use Rattle.std.proofs.lemmas.Int.{to_z-of_z}
 use Rattle.jiff_core.proofs.SignedLemmas.{signed_arith}
 use Rattle.schedule_windows.specs.Sources.{zone_of, IsRead}
