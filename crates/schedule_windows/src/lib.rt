@@ -4,8 +4,12 @@
 mod calendar;
 mod civil;
 mod next;
+#[cfg(test)]
+mod plain;
 mod rule;
 mod schedule;
+#[cfg(test)]
+mod tests;
 mod week;
 mod zone;
 
