@@ -15,7 +15,7 @@ const HORIZON: u64 = 1_209_600;
 const THURSDAY: i64 = 345_600;
 
 /// The least moment from this one on, and less than 1,209,600 seconds later, at which a window is open on the zone's clock.
-/// None exactly where there is none. Moments are seconds since 1970-01-01T00:00:00Z.
+/// None exactly where there is none. Moments are seconds since 1970-01-01T00:00:00Z. It is answered without memory.
 pub fn next_open(
     _alloc: Global,
     windows: &Windows,

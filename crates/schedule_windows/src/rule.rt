@@ -19,7 +19,8 @@ pub(crate) fn seconds_at(rule: &posix::TimeZone, moment: u64) -> i32
     rule.to_offset(instant(moment)).seconds
 }
 
-// A later moment, up to the end, before which the offset stays as it is at the first. It stays the same within a year (on a clock at UTC) up to the next transition.
+// A later moment, up to the end, before which the offset stays as it is at the first: it stays the same within a year, on a
+// clock at UTC, up to the next transition.
 pub(crate) fn same_offset_until(rule: &posix::TimeZone, at: u64, end: u64) -> u64
     requires before { at < end }
     requires limit { end ≤ 250_001_209_600 }
@@ -36,7 +37,8 @@ pub(crate) fn same_offset_until(rule: &posix::TimeZone, at: u64, end: u64) -> u6
     at + 1
 }
 
-// The first moment after this one, up to the end, at which the year or the offset is likely to change.
+// The first moment after this one, up to the end, at which the year or the offset is likely to change. Whoever takes it
+// tests that nothing changes before it.
 fn likely_change(rule: &posix::TimeZone, at: u64, end: u64) -> u64
     requires { (at ≤ 250_001_209_600) × (end ≤ 250_001_209_600) }
 {

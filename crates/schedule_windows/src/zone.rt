@@ -46,7 +46,8 @@ impl Zone {
         None
     }
 
-    /// The zone of a POSIX rule, as `CET-1CEST,M3.5.0,M10.5.0/3`, and None exactly where the text is no rule.
+    /// The zone of a POSIX rule, as `CET-1CEST,M3.5.0,M10.5.0/3`, and None exactly where `jiff` reads the text as no rule. The
+    /// one error is that no memory was left for the text.
     pub fn rule(alloc: Global, text: &str) -> Result<Option<Zone>, NoMemory>
         ensures { IfOk result (λ o. MatchOption o (read_whole text.now ≡ None) (λ z. (z ≡ PosixRule text.now) × IsSome (read_whole text.now))) }
     {
@@ -81,7 +82,7 @@ impl Zone {
         }
     }
 
-    /// What the zone's clocks show at a moment, in seconds since 1970-01-01T00:00:00Z.
+    /// What the zone's clocks show at a moment, in seconds since 1970-01-01T00:00:00Z. It is answered without memory.
     pub fn civil(&self, _alloc: Global, moment: u64) -> Result<Civil, NoMemory>
         requires { moment ≤ 250_001_209_600 }
         ensures answers { IsOk result }
