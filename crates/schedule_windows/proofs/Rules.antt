@@ -1,0 +1,81 @@
+-- A rule that was read has the offsets of its text.
+use Rattle.std.proofs.Common.{◌≡◌, ℕ, ℤ, pos, neg_ℤ, Bool, true, false, IsTrue, List, Option, Some, None, option_map, refl, sym, ap, ◌∙◌, rules}
+use Rattle.std.specs.Prelude.{◌&&◌, ◌||◌, int_lt, if◌then◌else◌}
+use Rattle.jiff_core.specs.Timestamp.{nanos_of_seconds}
+use Rattle.jiff_core.specs.declared.offset.Offset.{Offset}
+use Rattle.jiff_tz.specs.PosixDay.{is_rule_day}
+use Rattle.jiff_tz.specs.PosixReader.{read_whole}
+use Rattle.jiff_tz.specs.PosixRule.{first_nanosecond, last_nanosecond, int_same, in_window, saturating_add, rule_nanos, utc_window, dst_at_by, match_some}
+use Rattle.jiff_tz.specs.PosixText.{day_time_view, dst_view, tz_view}
+use Rattle.jiff_tz.specs.Year.{year_of_nanos}
+use Rattle.jiff_tz.specs.declared.posix.Day.{Day}
+use Rattle.jiff_tz.specs.declared.posix.Day.TheVariants.{JulianZero}
+use Rattle.jiff_tz.specs.declared.posix.DayTime.{DayTime}
+use Rattle.jiff_tz.specs.declared.posix.Dst.{Dst}
+use Rattle.jiff_tz.specs.declared.posix.TimeZone.{TimeZone}
+use Rattle.schedule_windows.specs.Ranges.{clamp_to-within}
+use Rattle.schedule_windows.specs.Rules.{offset_of, day_time_of, dst_of, rule_of}
+use Rattle.schedule_windows.specs.Zones.{offset_at, read_offset_at, rule_offset_at, FixedOffset, PosixRule}
+
+offset_of-seconds : (o : Offset) → (offset_of o.seconds).seconds ≡ o.seconds
+offset_of-seconds o = clamp_to-within _ _ o.seconds o.in_range.0 o.in_range.1
+
+day_chosen : (d : Day) (b : Bool) → b ≡ true → (if b then d else JulianZero 0) ≡ d
+day_chosen d b e = (λ i. if e i then d else JulianZero 0) ∙ refl
+
+day_stays : (d : Day) → IsTrue (is_rule_day d) → (if is_rule_day d then d else JulianZero 0) ≡ d
+day_stays d h = day_chosen d (is_rule_day d) (search rules)
+
+day_time_stays : (y : ℤ) (d : DayTime) (seconds : ℤ) → rule_nanos y (day_time_of (day_time_view d)) seconds ≡ rule_nanos y d seconds
+unfolding rule_nanos
+day_time_stays y d seconds =
+    let date = day_stays d.date d.date_in in
+    let time = clamp_to-within (neg_ℤ (pos 604_799)) (pos 604_799) d.time d.time_in.0 d.time_in.1 in
+    rw (date, time) refl
+
+-- the window by its two moments
+window_by : ℤ → ℤ → ℤ → ℤ → ℤ × ℤ
+window_by y start end std = if int_same start (first_nanosecond y)
+    && (int_lt (saturating_add end (nanos_of_seconds std)) (first_nanosecond y) || int_lt (last_nanosecond y) (saturating_add end (nanos_of_seconds std)))
+    then (start, last_nanosecond y)
+    else (start, end)
+
+utc_window-by : (d : Dst) (y : ℤ) (std : Offset) → utc_window d y std ≡ window_by y (rule_nanos y d.rule.start std.seconds) (rule_nanos y d.rule.end d.offset.seconds) std.seconds
+unfolding utc_window window_by
+utc_window-by d y std = refl
+
+window_stays : (d : Dst) (y : ℤ) (std : Offset) → utc_window (dst_of (dst_view d)) y (offset_of std.seconds) ≡ utc_window d y std
+window_stays d y std =
+    let ahead = offset_of-seconds std in
+    let later = offset_of-seconds d.offset in
+    let start : rule_nanos y (day_time_of (day_time_view d.rule.start)) (offset_of std.seconds).seconds ≡ rule_nanos y d.rule.start std.seconds =
+    ap (rule_nanos y (day_time_of (day_time_view d.rule.start))) ahead ∙ day_time_stays y d.rule.start std.seconds in
+    let end : rule_nanos y (day_time_of (day_time_view d.rule.end)) (offset_of d.offset.seconds).seconds ≡ rule_nanos y d.rule.end d.offset.seconds =
+    ap (rule_nanos y (day_time_of (day_time_view d.rule.end))) later ∙ day_time_stays y d.rule.end d.offset.seconds in
+    utc_window-by (dst_of (dst_view d)) y (offset_of std.seconds) ∙ (λ i. window_by y (start i) (end i) (ahead i)) ∙ sym (utc_window-by d y std)
+
+seconds_by : Offset → Option Dst → ℤ → ℤ
+seconds_by std dst n = (match_some (dst_at_by std dst n) std (λ d. d.offset)).seconds
+
+chosen_seconds : (std : Offset) (d : Dst) (n : ℤ) (a b : Bool) → a ≡ b → (match_some (if a then Some (dst_of (dst_view d)) else None) (offset_of std.seconds) (λ e. e.offset)).seconds ≡ (match_some (if b then Some d else None) std (λ e. e.offset)).seconds
+chosen_seconds std d n a true e = rw e (offset_of-seconds d.offset)
+chosen_seconds std d n a false e = rw e (offset_of-seconds std)
+
+seconds_stay : (std : Offset) (dst : Option Dst) (n : ℤ) → seconds_by (offset_of std.seconds) (option_map dst_of (option_map dst_view dst)) n ≡ seconds_by std dst n
+unfolding seconds_by
+seconds_stay std None n = offset_of-seconds std
+seconds_stay std (Some d) n = chosen_seconds std d n _ _ (ap (λ w. in_window w n) (window_stays d (year_of_nanos n) std))
+
+rule_of-view : (rule : TimeZone) (moment : ℕ) → rule_offset_at (rule_of (tz_view rule)) moment ≡ rule_offset_at rule moment
+unfolding seconds_by
+rule_of-view rule moment = seconds_stay rule.std_offset rule.dst (nanos_of_seconds (pos moment))
+
+-- the offset of a text that reads as a rule is the rule's
+pub offset_at-rule : (text : List ℕ) (rule : TimeZone) (moment : ℕ) → read_whole text ≡ Some (tz_view rule) → offset_at (PosixRule text) moment ≡ rule_offset_at rule moment
+unfolding offset_at
+offset_at-rule text rule moment e = ap (λ r. read_offset_at r moment) e ∙ rule_of-view rule moment
+
+-- the offset of a fixed zone is its own
+pub offset_at-fixed : (seconds : ℤ) (moment : ℕ) → offset_at (FixedOffset seconds) moment ≡ seconds
+unfolding offset_at
+offset_at-fixed seconds moment = refl

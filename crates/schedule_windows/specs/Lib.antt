@@ -1,0 +1,9 @@
+pub mod Ranges
+pub mod Rules
+pub mod Zones
+pub mod Sources
+pub mod Steady
+pub mod Weeks
+pub mod RunDays
+pub mod Schedules
+pub mod Opens

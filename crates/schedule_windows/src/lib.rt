@@ -1,0 +1,20 @@
+//! When jobs may start and when schedules are due: zones, weekly windows, calendars, and the next opening.
+#![tactic(auto)]
+
+mod calendar;
+mod civil;
+mod next;
+#[cfg(test)]
+mod plain;
+mod rule;
+mod schedule;
+#[cfg(test)]
+mod tests;
+mod week;
+mod zone;
+
+pub use civil::Civil;
+pub use next::next_open;
+pub use schedule::{Last, due};
+pub use week::{Opening, open_at};
+pub use zone::Zone;
