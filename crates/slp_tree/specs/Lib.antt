@@ -1,0 +1,5 @@
+pub mod Faults
+pub mod Trees
+pub mod Lifecycles
+pub mod Sorting
+pub mod Due

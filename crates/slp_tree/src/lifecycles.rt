@@ -1,0 +1,5 @@
+use std::alloc::Global;
+
+pub struct Lifecycles {
+    all: u8,
+}
