@@ -37,19 +37,15 @@ fn begins_with_duplication(operations: &[Operation]) -> bool
 fn has_late_source(operations: &[Operation]) -> bool
     ensures { result ≡ has_late_source operations.now }
 {
-    operations
-        .iter()
-        .enumerate()
-        .any(|(index, operation)| !operation.backup && usize::from(operation.source) >= index)
+    operations.iter().enumerate().any(|(index, operation)| !operation.backup
+        && usize::from(operation.source) >= index)
 }
 
 fn has_childless_after_copy(operations: &[Operation]) -> bool
     ensures { result ≡ has_childless_after_copy operations.now }
 {
-    operations
-        .iter()
-        .enumerate()
-        .any(|(index, operation)| is_after_copy(operation.retention) && !has_children(operations, index))
+    operations.iter().enumerate().any(|(index, operation)| is_after_copy(operation.retention)
+        && !has_children(operations, index))
 }
 
 fn is_known(unit: &Name, units: &[Name]) -> bool

@@ -48,7 +48,12 @@ impl Slp {
     /// 7. no later operation is a backup.
     ///
     /// It takes no memory, so `NoMemory` is never answered.
-    pub fn new(_alloc: Global, priority: u32, operations: Vec<Operation>, units: &[Name]) -> Result<Slp, SlpFault>
+    pub fn new(
+        _alloc: Global,
+        priority: u32,
+        operations: Vec<Operation>,
+        units: &[Name],
+    ) -> Result<Slp, SlpFault>
         ensures tree { IfOk result (λ slp. (slp ≡ record { priority = priority; operations = operations.items }) × (broken_rule units.now operations.items ≡ None)) }
         ensures fault { IfErr result (IsBroken (broken_rule units.now operations.items)) }
     {
