@@ -10,6 +10,7 @@ use Rattle.std.specs.declared.cmp.Ordering.{Ordering}
 use Rattle.std.specs.declared.cmp.Ordering.TheVariants.{Less, Equal, Greater}
 use Rattle.std.proofs.lemmas.Cmp.{nat_cmp_total, nat_list_cmp_total, then_total, on_total, back_total}
 use Rattle.std.proofs.lemmas.List.{drop_more, drop_all}
+use Rattle.std.proofs.lemmas.List.Sums.{sum_by-cons}
 use Rattle.std.proofs.lemmas.Map.Lookups.{exact_unsigned, exact_bytes}
 use Rattle.site_types.specs.declared.lifecycle.Operation.{Operation}
 use Rattle.site_types.specs.declared.image.ImageRecord.{ImageRecord}
@@ -22,7 +23,7 @@ use Rattle.slp_tree.proofs.SortingLemmas.{sorted_is}
 
 -- The order is total, and tells all due operations apart.
 
-due_order_total : IsTotalOrder due_order
+pub due_order_total : IsTotalOrder due_order
 due_order_total =
     then_total (back_total (on_total (λ (r : Ranked). r.priority) nat_cmp_total))
     (then_total (on_total (λ (r : Ranked). r.due.id.time) nat_cmp_total)
@@ -111,7 +112,7 @@ module _ (images : List ImageRecord) (i : ℕ) (image : ImageRecord) (lt : i < l
   images_here = drop_more images i image lt ∙ ap (λ (m : ImageRecord). m ∷ drop (i + 1) images) (sym is)
 
   pub states_here : count_states (drop i images) ≡ length image.states + count_states (drop (i + 1) images)
-  states_here = ap count_states images_here
+  states_here = ap count_states images_here ∙ sum_by-cons (λ (m : ImageRecord). length m.states) image (drop (i + 1) images)
 
   pub image_pushed : (lifecycles : List Lifecycle) (later : List Bool) (before after whole : List Ranked) → before ++ due_of_all (drop i images) lifecycles later ≡ whole → after ≡ before ++ due_of image (take (length image.states) later) (version_named image.lifecycle image.version lifecycles) → after ++ due_of_all (drop (i + 1) images) lifecycles (drop (length image.states) later) ≡ whole
   image_pushed lifecycles later before after whole all after_is =

@@ -8,6 +8,7 @@ use Rattle.std.specs.declared.cmp.Ordering.{Ordering}
 use Rattle.std.specs.declared.cmp.Ordering.TheVariants.{Less, Equal, Greater}
 use Rattle.std.proofs.lemmas.Cmp.{tied_itself, upto}
 use Rattle.std.proofs.lemmas.List.Sorted.{sum_by-IsPermutation, sorted_far, ranks_by}
+use Rattle.std.proofs.lemmas.List.Sums.{sum_by-cons}
 use Rattle.slp_tree.specs.Sorting.{put_in_order, in_order}
 
 abbrev Each : {X : Type 0} → (X → Type 0) → List X → Type 0
@@ -19,8 +20,8 @@ each_from P [] at = tt
 each_from P (x ∷ xs) at = (at 0 x (omega arith), each_from P xs (λ k d lt. at (suc k) d (omega arith)))
 
 each_then : {X : Type 0} (P Q : X → Type 0) (xs : List X) → ((x : X) → P x → Q x) → Each P xs → Each Q xs
-each_then P Q [] then each = tt
-each_then P Q (x ∷ xs) then each = (then x each.0, each_then P Q xs then each.1)
+each_then P Q [] gives each = tt
+each_then P Q (x ∷ xs) gives each = (gives x each.0, each_then P Q xs gives each.1)
 
 not_less : (o : Ordering) → is_lt (ordering_reverse o) ≡ is_gt o
 not_less Less = refl
@@ -28,7 +29,7 @@ not_less Equal = refl
 not_less Greater = refl
 
 forward : (o : Ordering) → is_gt o ≡ true → is_gt (ordering_reverse o) ≡ false
-forward Less is = refl
+forward Less is = absurd (cc)
 forward Equal is = refl
 forward Greater is = refl
 
@@ -68,16 +69,16 @@ module _ {X : Type 0} (order : X → X → Ordering) (total : IsTotalOrder order
 
   -- and has the same values
   sum_put : (f : X → ℕ) (x : X) (xs : List X) → sum_by f (put_in_order order x xs) ≡ f x + sum_by f xs
-  sum_put f x [] = refl
+  sum_put f x [] = sum_by-cons f x []
   sum_put f x (y ∷ ys) = at (is_gt (order x y)) (sum_put f x ys)
     where
       at : (b : Bool) → sum_by f (put_in_order order x ys) ≡ f x + sum_by f ys → sum_by f (if b then y ∷ put_in_order order x ys else x ∷ y ∷ ys) ≡ f x + sum_by f (y ∷ ys)
-      at true later = omega (arith, later)
-      at false later = refl
+      at true later = omega (arith, later, sum_by-cons f y (put_in_order order x ys), sum_by-cons f y ys)
+      at false later = sum_by-cons f x (y ∷ ys)
 
   sum_in_order : (f : X → ℕ) (xs : List X) → sum_by f (in_order order xs) ≡ sum_by f xs
   sum_in_order f [] = refl
-  sum_in_order f (x ∷ xs) = sum_put f x (in_order order xs) ∙ ap (λ (n : ℕ). f x + n) (sum_in_order f xs)
+  sum_in_order f (x ∷ xs) = sum_put f x (in_order order xs) ∙ ap (λ (n : ℕ). f x + n) (sum_in_order f xs) ∙ sym (sum_by-cons f x xs)
 
   -- how many values are below this one
   below : X → X → ℕ
@@ -86,16 +87,20 @@ module _ {X : Type 0} (order : X → X → Ordering) (total : IsTotalOrder order
   none_below : (x : X) (xs : List X) → Each (NotAbove x) xs → sum_by (below x) xs ≡ 0
   unfolding below
   none_below x [] each = refl
-  none_below x (y ∷ ys) each = (λ j. cond (each.0 j) 1 0 + sum_by (below x) ys) ∙ none_below x ys each.1
+  none_below x (y ∷ ys) each =
+      let first : below x y ≡ 0 = λ j. cond (each.0 j) 1 0 in
+      omega (arith, sum_by-cons (below x) y ys, first, none_below x ys each.1)
 
   not_above_itself : (x : X) → NotAbove x x
   not_above_itself x = ap is_gt (tied_itself total x)
 
   first_not_above : (x y : X) (xs ys : List X) → InOrder (x ∷ xs) → sum_by (below x) (y ∷ ys) ≡ sum_by (below x) (x ∷ xs) → NotAbove x y
   unfolding below
-  first_not_above x y xs ys up same = at (is_gt (order x y)) (sym (omega (arith, same, none_below x (x ∷ xs) (not_above_itself x, up.0))))
+  first_not_above x y xs ys up same =
+      let first : below x y ≡ 0 = omega (arith, sum_by-cons (below x) y ys, same, none_below x (x ∷ xs) (not_above_itself x, up.0)) in
+      at (is_gt (order x y)) first
     where
-      at : (b : Bool) → 0 ≡ cond b 1 0 → b ≡ false
+      at : (b : Bool) → cond {A = ℕ} b 1 0 ≡ 0 → b ≡ false
       at true is = absurd (omega arith)
       at false is = refl
 
@@ -104,18 +109,21 @@ module _ {X : Type 0} (order : X → X → Ordering) (total : IsTotalOrder order
 
   same_list : (xs ys : List X) → InOrder xs → InOrder ys → ((f : X → ℕ) → sum_by f xs ≡ sum_by f ys) → xs ≡ ys
   same_list [] [] up down same = refl
-  same_list [] (y ∷ ys) up down same = absurd (omega (arith, same (λ z. 1)))
-  same_list (x ∷ xs) [] up down same = absurd (omega (arith, same (λ z. 1)))
+  same_list [] (y ∷ ys) up down same = absurd (omega (arith, same (λ z. 1), sum_by-cons (λ z. 1) y ys))
+  same_list (x ∷ xs) [] up down same = absurd (omega (arith, same (λ z. 1), sum_by-cons (λ z. 1) x xs))
   same_list (x ∷ xs) (y ∷ ys) up down same =
       let first : x ≡ y = same_first x y (first_not_above x y xs ys up (sym (same (below x)))) (first_not_above y x ys xs down (same (below y))) in
-      let rest : xs ≡ ys = same_list xs ys up.1 down.1 (λ f. omega (arith, same f, ap f first)) in
+      let rest : xs ≡ ys = same_list xs ys up.1 down.1 (λ f. omega (arith, same f, ap f first, sum_by-cons f x xs, sum_by-cons f y ys)) in
       λ j. first j ∷ rest j
 
   in_order_from : (xs : List X) → IsSortedBy (λ x y. is_lt (order x y)) xs → InOrder xs
   in_order_from [] sorted = tt
   in_order_from (x ∷ xs) sorted =
       (each_from (NotAbove x) xs (λ k d lt. sym (not_less (order x (get_or xs k d))) ∙ ap is_lt (sym (total.antisymm (get_or xs k d) x)) ∙ sorted_far (λ a b. is_lt (order a b)) (ranks_by total (λ (z : X). z)) (x ∷ xs) sorted 0 (suc k) d (omega arith) (omega arith)),
-      in_order_from xs (λ k d low high. sorted (suc k) d (omega arith) (omega arith)))
+      in_order_from xs (λ k d low high. subst (λ (n : ℕ). is_lt (order (get_or (x ∷ xs) n d) (get_or xs k d)) ≡ false) (later k) (sorted (suc k) d (omega arith) (omega arith))))
+    where
+      later : (k : ℕ) → suc k + 1 ≡ suc (k + 1)
+      later k = omega arith
 
   -- so a sorted list with the same values is that list
   pub sorted_is : (xs ys : List X) → IsPermutation xs ys → IsSortedBy (λ x y. is_lt (order x y)) ys → ys ≡ in_order order xs

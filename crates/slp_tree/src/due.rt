@@ -35,8 +35,8 @@ pub fn due_ops(alloc: Global, images: &[ImageRecord], lifecycles: &Lifecycles, z
     ensures { IfOk result (λ v. v.items ≡ due_ops images.now lifecycles.now zone_open.now) }
 {
     let mut ranked = ranked_due(alloc, images, lifecycles, zone_open)?;
-    ranked.sort_by(|a, b| compare(a, b))?;
-    ranked.into_iter().map(|entry| entry.due).collect(alloc)
+    sort(&mut ranked)?;
+    unranked(alloc, ranked)
 }
 
 fn ranked_due(alloc: Global, images: &[ImageRecord], lifecycles: &Lifecycles, zone_open: &[bool]) -> Result<Vec<Ranked>, NoMemory>
@@ -46,27 +46,27 @@ fn ranked_due(alloc: Global, images: &[ImageRecord], lifecycles: &Lifecycles, zo
     let mut ranked = Vec::new(alloc);
     let mut later = zone_open;
     for image in images {
-        let (open, rest) = later.split_at(image.states.as_slice().len());
-        push_image(alloc, image, lifecycles, open, &mut ranked)?;
+        let (open_windows, rest) = later.split_at(image.states.as_slice().len());
+        push_image(alloc, image, lifecycles, open_windows, &mut ranked)?;
         later = rest;
     }
     Ok(ranked)
 }
 
-fn push_image(alloc: Global, image: &ImageRecord, lifecycles: &Lifecycles, open: &[bool], ranked: &mut Vec<Ranked>) -> Result<(), NoMemory>
-    ensures { OnOk result (ranked.new.items ≡ ranked.old.items ++ due_of image.now open.now (version_named image.now.lifecycle image.now.version lifecycles.now)) }
+fn push_image(alloc: Global, image: &ImageRecord, lifecycles: &Lifecycles, open_windows: &[bool], ranked: &mut Vec<Ranked>) -> Result<(), NoMemory>
+    ensures { OnOk result (ranked.new.items ≡ ranked.old.items ++ due_of image.now open_windows.now (version_named image.now.lifecycle image.now.version lifecycles.now)) }
 {
     match lifecycles.find(&image.lifecycle, image.version) {
-        Some(slp) => push_due(alloc, image, slp, open, ranked),
+        Some(slp) => push_due(alloc, image, slp, open_windows, ranked),
         None => Ok(()),
     }
 }
 
-fn push_due(alloc: Global, image: &ImageRecord, slp: &Slp, open: &[bool], ranked: &mut Vec<Ranked>) -> Result<(), NoMemory>
-    ensures { OnOk result (ranked.new.items ≡ ranked.old.items ++ due_of image.now open.now (Some slp.now)) }
+fn push_due(alloc: Global, image: &ImageRecord, slp: &Slp, open_windows: &[bool], ranked: &mut Vec<Ranked>) -> Result<(), NoMemory>
+    ensures { OnOk result (ranked.new.items ≡ ranked.old.items ++ due_of image.now open_windows.now (Some slp.now)) }
 {
     for op in 0..slp.count() {
-        if is_due(image, slp, open, op) {
+        if is_due(image, slp, open_windows, op) {
             let id = BackupId {
                 client: image.id.client.copy(alloc)?,
                 time: image.id.time,
@@ -80,11 +80,11 @@ fn push_due(alloc: Global, image: &ImageRecord, slp: &Slp, open: &[bool], ranked
     Ok(())
 }
 
-fn is_due(image: &ImageRecord, slp: &Slp, open: &[bool], op: u8) -> bool
-    ensures { result ≡ is_due image.now slp.now.operations open.now op }
+fn is_due(image: &ImageRecord, slp: &Slp, open_windows: &[bool], op: u8) -> bool
+    ensures { result ≡ is_due image.now slp.now.operations open_windows.now op }
 {
     let states = image.states.as_slice();
-    image.active && waits(states, usize::from(op)) && reads_complete(states, slp, op) && is_open(open, op)
+    image.active && waits(states, usize::from(op)) && reads_complete(states, slp, op) && is_open(open_windows, op)
 }
 
 fn reads_complete(states: &[OpState], slp: &Slp, op: u8) -> bool
@@ -96,10 +96,10 @@ fn reads_complete(states: &[OpState], slp: &Slp, op: u8) -> bool
     }
 }
 
-fn is_open(open: &[bool], op: u8) -> bool
-    ensures { result ≡ slice_index_or open.now op false }
+fn is_open(open_windows: &[bool], op: u8) -> bool
+    ensures { result ≡ slice_index_or open_windows.now op false }
 {
-    match open.get(usize::from(op)) {
+    match open_windows.get(usize::from(op)) {
         Some(is_open) => *is_open,
         None => false,
     }
@@ -114,4 +114,17 @@ fn compare(a: &Ranked, b: &Ranked) -> Ordering
         .then_with(|| a.due.id.time.cmp(&b.due.id.time))
         .then_with(|| a.due.id.client.bytes().cmp(b.due.id.client.bytes()))
         .then_with(|| a.due.op.cmp(&b.due.op))
+}
+
+fn sort(ranked: &mut Vec<Ranked>) -> Result<(), NoMemory>
+    ensures { OnOk result (ranked.new.items ≡ in_order due_order ranked.old.items) }
+{
+    ranked.sort_by(|a, b| compare(a, b))?;
+    Ok(())
+}
+
+fn unranked(alloc: Global, ranked: Vec<Ranked>) -> Result<Vec<DueOp>, NoMemory>
+    ensures { IfOk result (λ v. v.items ≡ map (λ r. r.due) ranked.items) }
+{
+    ranked.into_iter().map(|entry| entry.due).collect(alloc)
 }
