@@ -1,5 +1,5 @@
 -- Going through the operations of images one by one, and their order.
-use Rattle.std.proofs.Common.{◌≡◌, ◌<◌, ◌≤◌, ◌+◌, ◌-◌, ℕ, zero, suc, List, [], ◌∷◌, ◌++◌, map, length, take, drop, get_or, append_assoc, append-nil, Bool, true, false, cond, Option, Some, None, refl, sym, ◌∙◌, ap, subst, arith}
+use Rattle.std.proofs.Common.{◌≡◌, ◌<◌, ◌≤◌, ◌+◌, ◌-◌, ℕ, suc, List, [], ◌∷◌, ◌++◌, map, length, take, drop, get_or, append_assoc, append-nil, Bool, true, false, cond, refl, sym, ◌∙◌, ap, arith}
 use Rattle.std.specs.Prelude.{filter, sum_by, IsPermutation}
 use Rattle.std.specs.List.{range_with_len}
 use Rattle.std.specs.Cmp.{IsTotalOrder}
@@ -12,7 +12,6 @@ use Rattle.std.proofs.lemmas.Cmp.{nat_cmp_total, nat_list_cmp_total, then_total,
 use Rattle.std.proofs.lemmas.List.{drop_more, drop_all}
 use Rattle.std.proofs.lemmas.List.Sums.{sum_by-cons}
 use Rattle.std.proofs.lemmas.Map.Lookups.{exact_unsigned, exact_bytes}
-use Rattle.site_types.specs.declared.lifecycle.Operation.{Operation}
 use Rattle.site_types.specs.declared.image.ImageRecord.{ImageRecord}
 use Rattle.slp_tree.specs.declared.due.Ranked.{Ranked}
 use Rattle.slp_tree.specs.Trees.{Version}
@@ -80,8 +79,8 @@ module _ (image : ImageRecord) (version : Version) (open_windows : List Bool) (i
       let P : ℕ → Bool = is_due image version.operations open_windows in
       let rest : List ℕ = filter P (range_with_len (i + 1) (length version.operations - (i + 1))) in
       let here : due_from image version open_windows i ≡ ranked image version.priority i ∷ due_from image version open_windows (i + 1) =
-          ap (λ (l : List ℕ). map (ranked image version.priority) (filter P l)) (range_here i (length version.operations) lt)
-          ∙ (λ j. map (ranked image version.priority) (cond (due j) (i ∷ rest) rest)) in
+      ap (λ (l : List ℕ). map (ranked image version.priority) (filter P l)) (range_here i (length version.operations) lt)
+      ∙ (λ j. map (ranked image version.priority) (cond (due j) (i ∷ rest) rest)) in
       ap (λ (l : List Ranked). l ++ due_from image version open_windows (i + 1)) after_is
       ∙ append_assoc before (ranked image version.priority i ∷ []) (due_from image version open_windows (i + 1))
       ∙ ap (λ (l : List Ranked). before ++ l) (sym here)
@@ -92,8 +91,8 @@ module _ (image : ImageRecord) (version : Version) (open_windows : List Bool) (i
       let P : ℕ → Bool = is_due image version.operations open_windows in
       let rest : List ℕ = filter P (range_with_len (i + 1) (length version.operations - (i + 1))) in
       let here : due_from image version open_windows i ≡ due_from image version open_windows (i + 1) =
-          ap (λ (l : List ℕ). map (ranked image version.priority) (filter P l)) (range_here i (length version.operations) lt)
-          ∙ (λ j. map (ranked image version.priority) (cond (other j) (i ∷ rest) rest)) in
+      ap (λ (l : List ℕ). map (ranked image version.priority) (filter P l)) (range_here i (length version.operations) lt)
+      ∙ (λ j. map (ranked image version.priority) (cond (other j) (i ∷ rest) rest)) in
       ap (λ (l : List Ranked). before ++ l) (sym here) ∙ all
 
   pub due_done : length version.operations ≤ i → before ++ due_from image version open_windows i ≡ whole → before ≡ whole

@@ -1,7 +1,7 @@
 -- Lifecycles by name.
-use Rattle.std.proofs.Common.{◌≡◌, ◌≢◌, ◌<◌, ◌≤◌, ◌+◌, ◌-◌, ℕ, zero, suc, List, [], ◌∷◌, ◌++◌, length, take, drop, get_or, set, Bool, true, false, cond, Option, Some, None, Result, Ok, Err, refl, sym, ◌∙◌, ap, subst, arith}
-use Rattle.std.specs.Prelude.{IfOk, OnErr, find, insert, slice_get, unwrap_or, nat_eq}
-use Rattle.std.specs.List.{AllPairs, HoldsAt, AllWithin}
+use Rattle.std.proofs.Common.{◌≡◌, ◌≢◌, ◌<◌, ◌+◌, ◌-◌, ℕ, zero, suc, List, [], ◌∷◌, ◌++◌, length, get_or, set, Bool, true, false, cond, Option, Some, None, Result, Ok, Err, refl, sym, ◌∙◌, ap, subst, arith}
+use Rattle.std.specs.Prelude.{IfOk, OnErr, insert, slice_get, unwrap_or, nat_eq}
+use Rattle.std.specs.List.{HoldsAt}
 use Rattle.std.specs.Option.{option_map}
 use Rattle.std.specs.Str.{bytes_eq}
 use Rattle.std.proofs.lemmas.Slice.Eq.{bytes_eq-Decides}
@@ -11,7 +11,7 @@ use Rattle.std.specs.List.Sorted.{IsNonDecreasingBy, IsBinarySearchResult, IsSea
 use Rattle.std.proofs.lemmas.List.Sorted.{searchable_from_sorted}
 use Rattle.std.specs.declared.cmp.Ordering.{Ordering}
 use Rattle.std.specs.declared.cmp.Ordering.TheVariants.{Less, Equal, Greater}
-use Rattle.std.proofs.lemmas.Cmp.{nat_list_cmp_total, tied_back, tied_itself}
+use Rattle.std.proofs.lemmas.Cmp.{nat_list_cmp_total, tied_itself}
 use Rattle.std.proofs.lemmas.Map.Lookups.{exact_bytes}
 use Rattle.std.proofs.lemmas.Map.Text.{is_eq-slice_cmp}
 use Rattle.std.specs.Ordering.{ordering_reverse}
@@ -258,7 +258,7 @@ module _ (ls new : List Lifecycle) (name : List ℕ) (version : Version) (rising
   others_kept number added is other k apart true same =
       let named : name ≡ other = (bytes_eq-Decides name other).0 same in
       subst (λ (n : List ℕ). version_named n k new ≡ version_named n k ls) named
-          (ap (version_in k) (next_found added) ∙ others_extended name version (lifecycle_named name ls) k (λ here. apart (sym named, here ∙ sym is)))
+      (ap (version_in k) (next_found added) ∙ others_extended name version (lifecycle_named name ls) k (λ here. apart (sym named, here ∙ sym is)))
 
   pub others_after : {E : Type 0} (result : Result ℕ E) → IsAdded name version ls new result → IfOk result (λ number. (other : List ℕ) (k : ℕ) → ¬ ((other ≡ name) × (k ≡ number)) → version_named other k new ≡ version_named other k ls)
   others_after (Ok number) added = λ other k apart. others_kept number added.added (added.number ∙ next_is (lifecycle_named name ls)) other k apart (bytes_eq name other) refl
@@ -284,7 +284,7 @@ place_of ls name (Err i) rising within found = let parts = found (ranks_rise ls 
 pub named_read : (ls items : List Lifecycle) (name seen : List ℕ) (i : ℕ) (l : Lifecycle) → items ≡ ls → AreByName ls → seen ≡ name → StandsAt ls seen i → l ≡ get_or items i l → lifecycle_named name ls ≡ Some l
 named_read ls items name seen i l listed rising same at is =
     subst (λ (n : List ℕ). lifecycle_named n ls ≡ Some l) same
-        (named_at ls seen i l rising at ∙ ap (λ (m : Lifecycle). Some m) (ap (λ (all : List Lifecycle). get_or all i l) (sym listed) ∙ sym is))
+    (named_at ls seen i l rising at ∙ ap (λ (m : Lifecycle). Some m) (ap (λ (all : List Lifecycle). get_or all i l) (sym listed) ∙ sym is))
 
 pub unnamed_read : (ls : List Lifecycle) (name seen : List ℕ) (i : ℕ) → seen ≡ name → LacksAt ls seen i → lifecycle_named name ls ≡ None
 unnamed_read ls name seen i same lacks = subst (λ (n : List ℕ). lifecycle_named n ls ≡ None) same (unnamed_at ls seen i lacks)
@@ -298,10 +298,10 @@ pub added_in_place : {E : Type 0} (ls items : List Lifecycle) (name : List ℕ) 
     → IfOk result (λ number. (after ≡ with_further l version) × (number ≡ length l.versions + 1)) → OnErr result (after ≡ l) → IsAdded name version ls (set items i after) result
 added_in_place ls items name version i l after (Ok number) listed rising at is added kept = record {
   added =
-    ap (λ (m : Lifecycle). set items i m) added.0
-    ∙ ap (λ (m : Lifecycle). set items i (with_further m version)) (is ∙ ap (λ (all : List Lifecycle). get_or all i l) listed)
-    ∙ ap (λ (all : List Lifecycle). set all i (with_further (get_or ls i l) version)) listed
-    ∙ sym (added_at ls name version i l (subst AreByName listed rising) at);
+      ap (λ (m : Lifecycle). set items i m) added.0
+      ∙ ap (λ (m : Lifecycle). set items i (with_further m version)) (is ∙ ap (λ (all : List Lifecycle). get_or all i l) listed)
+      ∙ ap (λ (all : List Lifecycle). set all i (with_further (get_or ls i l) version)) listed
+      ∙ sym (added_at ls name version i l (subst AreByName listed rising) at);
   number = added.1 ∙ sym (ap (λ (o : Option ℕ). unwrap_or o 0 + 1) (latest_read ls items name i l listed rising at is));
   unchanged = tt;
 }

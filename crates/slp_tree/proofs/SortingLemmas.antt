@@ -1,5 +1,5 @@
 -- A list has one order by a total order under which nothing ties with another value.
-use Rattle.std.proofs.Common.{◌≡◌, ◌+◌, ◌≤◌, ◌<◌, ℕ, zero, suc, List, [], ◌∷◌, length, get_or, Bool, true, false, cond, refl, sym, ◌∙◌, ap, subst, arith}
+use Rattle.std.proofs.Common.{◌≡◌, ◌+◌, ◌<◌, ℕ, suc, List, [], ◌∷◌, length, get_or, Bool, true, false, cond, refl, sym, ◌∙◌, ap, subst, arith}
 use Rattle.std.specs.Prelude.{sum_by, if◌then◌else◌, IsPermutation}
 use Rattle.std.specs.Cmp.{IsTotalOrder}
 use Rattle.std.specs.List.Sorted.{IsSortedBy}
@@ -118,9 +118,10 @@ module _ {X : Type 0} (order : X → X → Ordering) (total : IsTotalOrder order
 
   in_order_from : (xs : List X) → IsSortedBy (λ x y. is_lt (order x y)) xs → InOrder xs
   in_order_from [] sorted = tt
-  in_order_from (x ∷ xs) sorted =
-      (each_from (NotAbove x) xs (λ k d lt. sym (not_less (order x (get_or xs k d))) ∙ ap is_lt (sym (total.antisymm (get_or xs k d) x)) ∙ sorted_far (λ a b. is_lt (order a b)) (ranks_by total (λ (z : X). z)) (x ∷ xs) sorted 0 (suc k) d (omega arith) (omega arith)),
-      in_order_from xs (λ k d low high. subst (λ (n : ℕ). is_lt (order (get_or (x ∷ xs) n d) (get_or xs k d)) ≡ false) (later k) (sorted (suc k) d (omega arith) (omega arith))))
+  in_order_from (x ∷ xs) sorted = (
+    each_from (NotAbove x) xs (λ k d lt. sym (not_less (order x (get_or xs k d))) ∙ ap is_lt (sym (total.antisymm (get_or xs k d) x)) ∙ sorted_far (λ a b. is_lt (order a b)) (ranks_by total (λ (z : X). z)) (x ∷ xs) sorted 0 (suc k) d (omega arith) (omega arith)),
+    in_order_from xs (λ k d low high. subst (λ (n : ℕ). is_lt (order (get_or (x ∷ xs) n d) (get_or xs k d)) ≡ false) (later k) (sorted (suc k) d (omega arith) (omega arith))),
+  )
     where
       later : (k : ℕ) → suc k + 1 ≡ suc (k + 1)
       later k = omega arith

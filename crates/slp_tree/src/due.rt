@@ -30,7 +30,12 @@ struct Ranked {
 /// the image's time, its client and the operation's index. `zone_open` says, for each operation of each image in their
 /// order, whether its window is open. An image keeps the version that it was made under; one whose version isn't there has
 /// no due operations.
-pub fn due_ops(alloc: Global, images: &[ImageRecord], lifecycles: &Lifecycles, zone_open: &[bool]) -> Result<Vec<DueOp>, NoMemory>
+pub fn due_ops(
+    alloc: Global,
+    images: &[ImageRecord],
+    lifecycles: &Lifecycles,
+    zone_open: &[bool],
+) -> Result<Vec<DueOp>, NoMemory>
     requires { sum_by (λ image. length image.states) images.now ≡ length zone_open.now }
     ensures { IfOk result (λ v. v.items ≡ due_ops images.now lifecycles.now zone_open.now) }
 {
@@ -39,7 +44,12 @@ pub fn due_ops(alloc: Global, images: &[ImageRecord], lifecycles: &Lifecycles, z
     unranked(alloc, ranked)
 }
 
-fn ranked_due(alloc: Global, images: &[ImageRecord], lifecycles: &Lifecycles, zone_open: &[bool]) -> Result<Vec<Ranked>, NoMemory>
+fn ranked_due(
+    alloc: Global,
+    images: &[ImageRecord],
+    lifecycles: &Lifecycles,
+    zone_open: &[bool],
+) -> Result<Vec<Ranked>, NoMemory>
     requires { sum_by (λ image. length image.states) images.now ≡ length zone_open.now }
     ensures { IfOk result (λ v. v.items ≡ due_of_all images.now lifecycles.now zone_open.now) }
 {
@@ -53,7 +63,13 @@ fn ranked_due(alloc: Global, images: &[ImageRecord], lifecycles: &Lifecycles, zo
     Ok(ranked)
 }
 
-fn push_image(alloc: Global, image: &ImageRecord, lifecycles: &Lifecycles, open_windows: &[bool], ranked: &mut Vec<Ranked>) -> Result<(), NoMemory>
+fn push_image(
+    alloc: Global,
+    image: &ImageRecord,
+    lifecycles: &Lifecycles,
+    open_windows: &[bool],
+    ranked: &mut Vec<Ranked>,
+) -> Result<(), NoMemory>
     ensures { OnOk result (ranked.new.items ≡ ranked.old.items ++ due_of image.now open_windows.now (version_named image.now.lifecycle image.now.version lifecycles.now)) }
 {
     match lifecycles.find(&image.lifecycle, image.version) {
@@ -62,7 +78,13 @@ fn push_image(alloc: Global, image: &ImageRecord, lifecycles: &Lifecycles, open_
     }
 }
 
-fn push_due(alloc: Global, image: &ImageRecord, slp: &Slp, open_windows: &[bool], ranked: &mut Vec<Ranked>) -> Result<(), NoMemory>
+fn push_due(
+    alloc: Global,
+    image: &ImageRecord,
+    slp: &Slp,
+    open_windows: &[bool],
+    ranked: &mut Vec<Ranked>,
+) -> Result<(), NoMemory>
     ensures { OnOk result (ranked.new.items ≡ ranked.old.items ++ due_of image.now open_windows.now (Some slp.now)) }
 {
     for op in 0..slp.count() {
@@ -84,7 +106,10 @@ fn is_due(image: &ImageRecord, slp: &Slp, open_windows: &[bool], op: u8) -> bool
     ensures { result ≡ is_due image.now slp.now.operations open_windows.now op }
 {
     let states = image.states.as_slice();
-    image.active && waits(states, usize::from(op)) && reads_complete(states, slp, op) && is_open(open_windows, op)
+    image.active
+        && waits(states, usize::from(op))
+        && reads_complete(states, slp, op)
+        && is_open(open_windows, op)
 }
 
 fn reads_complete(states: &[OpState], slp: &Slp, op: u8) -> bool

@@ -12,3 +12,6 @@ pub use slp::{Slp, SlpFault};
 
 /// No memory was left.
 pub type NoMemory = std::alloc::AllocError;
+
+#[cfg(test)]
+mod tests;

@@ -179,7 +179,13 @@ impl Lifecycles {
     }
 
     // The first version of a name that isn't there.
-    fn insert_at(&mut self, alloc: Global, at: usize, name: &Name, slp: Slp) -> Result<u16, NoMemory>
+    fn insert_at(
+        &mut self,
+        alloc: Global,
+        at: usize,
+        name: &Name,
+        slp: Slp,
+    ) -> Result<u16, NoMemory>
         requires place { LacksAt self.old name.now at }
         requires names { length self.old < 4294967295 }
         ensures { IsAdded name.now slp self.old self.new result }

@@ -10,4 +10,4 @@ use Rattle.slp_tree.proofs.due.sort.Goals as goal
 pub returns : goal.returns
 returns c =
     due_sorted c.args.ranked.now.items c.sort_by.new.self.items c.in_ok-sort_by.ensures.permutation
-        (c.in_ok-sort_by.ensures.sorted (λ x y. is_lt (due_order x y)) (ranks_by due_order_total (λ (r : Ranked). r)) (answers_always _ _ _ (λ f a r g called. search rules)))
+    (c.in_ok-sort_by.ensures.sorted (λ x y. is_lt (due_order x y)) (ranks_by due_order_total (λ (r : Ranked). r)) (answers_always _ _ _ (λ f a r g called. search rules)))

@@ -1,5 +1,3 @@
-use Rattle.std.proofs.Common.{subst, List, ℕ}
-use Rattle.slp_tree.specs.Places.{IsAdded}
 use Rattle.slp_tree.proofs.LifecycleLemmas.{latest_after, found_after, others_after}
 use Rattle.slp_tree.proofs.lifecycles.Lifecycles.add.Goals as goal
 

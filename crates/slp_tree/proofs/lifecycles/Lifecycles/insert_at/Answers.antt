@@ -13,4 +13,4 @@ pub returns : goal.returns
 returns c =
     let new : record { name = c.in_ok-new.new.name; versions = c.in_ok-new.new.versions } ≡ record { name = c.args.name.now; versions = c.args.slp ∷ [] } = c.in_ok-new.ensures ∙ (λ j. record { name = c.in_ok-copy.ensures j; versions = c.args.slp ∷ [] }) in
     first_added c.args.self.now c.insert.new.self.items c.args.name.now c.args.slp c.args.at c.requires.place
-        (inserted_is c.args.self.now c.self.inside.listed.items c.insert.new.self.items c.args.name.now c.args.slp c.args.at _ c.self.view_is c.requires.place new c.in_ok-insert.ensures.items)
+    (inserted_is c.args.self.now c.self.inside.listed.items c.insert.new.self.items c.args.name.now c.args.slp c.args.at _ c.self.view_is c.requires.place new c.in_ok-insert.ensures.items)
