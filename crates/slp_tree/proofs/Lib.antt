@@ -1,0 +1,4 @@
+pub mod TreeLemmas
+pub mod LifecycleLemmas
+pub mod SortingLemmas
+pub mod DueLemmas

@@ -1,0 +1,6 @@
+pub mod Faults
+pub mod Places
+pub mod Trees
+pub mod Lifecycles
+pub mod Sorting
+pub mod Due

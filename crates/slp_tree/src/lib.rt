@@ -1,0 +1,17 @@
+//! Storage lifecycles: trees of operations that images follow, their versions, and the operations that are due.
+#![tactic(auto)]
+
+mod due;
+mod lifecycles;
+mod rules;
+mod slp;
+
+pub use due::{DueOp, due_ops};
+pub use lifecycles::Lifecycles;
+pub use slp::{Slp, SlpFault};
+
+/// No memory was left.
+pub type NoMemory = std::alloc::AllocError;
+
+#[cfg(test)]
+mod tests;
