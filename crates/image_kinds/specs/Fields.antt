@@ -3,13 +3,12 @@ use Rattle.std.specs.Prelude.{◌≡◌, ℕ, Bool, true, false, ◌&&◌, ◌==
 use Rattle.std.specs.List.{starts_with}
 use Rattle.std.specs.Borrow.{Bor}
 use Rattle.std.specs.Int.{Width, w16, w64, byte_len, from_be_bytes}
-use Rattle.image_kinds.specs.Paths.{is_path_length, is_path, is_before}
-use Rattle.image_kinds.specs.Streams.{letters_of}
+use Rattle.image_kinds.specs.Paths.{is_path_length, follows}
+use Rattle.image_kinds.specs.Streams.{keeps}
 use Rattle.image_kinds.specs.declared.entry.Entry.{Entry}
 use Rattle.image_kinds.specs.declared.entry.Item.{Item}
 use Rattle.image_kinds.specs.declared.entry.Item.TheVariants.{Taken, Kept}
 use Rattle.image_kinds.specs.declared.format.Format.{Format}
-use Rattle.image_kinds.specs.declared.format.Format.TheVariants as format
 use Rattle.image_kinds.specs.declared.cursor.FieldFault.{FieldFault}
 use Rattle.image_kinds.specs.declared.cursor.FieldFault.TheVariants.{Broken, NoMemory}
 
@@ -41,7 +40,7 @@ path_length_at bytes = number_at w16 bytes >>= λ n. if is_path_length n.0 then 
 
 -- the bytes of a path, behind a last one
 abbrev pub path_bytes_at : List ℕ → ℕ → List ℕ → Read (List ℕ)
-path_bytes_at last count bytes = text_at count bytes >>= λ p. if is_path p.0 && is_before last p.0 then Ok p else Err (length bytes)
+path_bytes_at last count bytes = text_at count bytes >>= λ p. if follows last p.0 then Ok p else Err (length bytes)
 
 abbrev pub path_at : List ℕ → List ℕ → Read (List ℕ)
 path_at last bytes = path_length_at bytes >>= λ n. path_bytes_at last n.0 n.1
@@ -61,10 +60,6 @@ taken_at last bytes = entry_at last bytes >>= λ e. Ok (Some (Taken e.0), e.1)
 
 abbrev pub kept_at : List ℕ → List ℕ → Read (Option Item)
 kept_at last bytes = path_at last bytes >>= λ p. Ok (Some (Kept p.0), p.1)
-
-abbrev pub keeps : Format → Bool
-keeps format.Stream = false
-keeps format.Image = true
 
 -- what stands behind the tag
 abbrev pub tagged_at : Format → List ℕ → ℕ → ℕ → List ℕ → Read (Option Item)

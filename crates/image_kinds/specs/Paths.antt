@@ -24,11 +24,15 @@ is_path path = is_path_length (length path) && begins_with_slash path && list_al
 abbrev pub is_before : List ℕ → List ℕ → Bool
 is_before path other = is_lt (slice_cmp nat_cmp path other)
 
--- paths that rise strictly, the first of them from behind a given one
+-- a path behind another in that order
+abbrev pub follows : List ℕ → List ℕ → Bool
+follows last path = is_path path && is_before last path
+
+-- paths of which each follows the one before it, and the first follows a given one
 abbrev pub rise_behind : List ℕ → List (List ℕ) → Bool
 rise_behind last [] = true
-rise_behind last (path ∷ paths) = is_path path && is_before last path && rise_behind path paths
+rise_behind last (path ∷ paths) = follows last path && rise_behind path paths
 
--- paths that rise strictly; no bytes stand before each of them
+-- paths that rise strictly: no bytes at all stand before every path
 abbrev pub are_rising : List (List ℕ) → Bool
 are_rising paths = rise_behind [] paths

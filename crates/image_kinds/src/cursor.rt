@@ -6,7 +6,7 @@ ghost use Rattle.image_kinds.specs.Fields.{byte_at, number_at, text_at, letters_
 
 use crate::entry::{Entry, Item};
 use crate::format::Format;
-use crate::path::{is_before, is_path, is_path_length};
+use crate::path::{follows, is_path_length};
 use site_types::{NoMemory, Text};
 use std::alloc::Global;
 use std::marker::Model;
@@ -122,7 +122,7 @@ impl<'a> Cursor<'a> {
     {
         let left = self.rest.len();
         let path = self.text(u64::from(count))?;
-        if !is_path(path) || !is_before(last, path) {
+        if !follows(last, path) {
             return Err(FieldFault::Broken(left));
         }
         Ok(path)

@@ -1,7 +1,6 @@
 // The two formats of a stream.
 ghost use Rattle.std.specs.Prelude.{◌≡◌};
-ghost use Rattle.image_kinds.specs.Streams.{letters_of};
-ghost use Rattle.image_kinds.specs.Fields.{keeps};
+ghost use Rattle.image_kinds.specs.Streams.{letters_of, keeps};
 
 #[derive(Clone, Copy, Debug)]
 pub enum Format {
