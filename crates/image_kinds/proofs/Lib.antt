@@ -1,2 +1,4 @@
 pub mod Reading
 pub mod Again
+pub mod Fronts
+pub mod Faults

@@ -46,7 +46,7 @@ bind_law : {A B : Type 0} (r : Result A ℕ) (f : A → Result B ℕ) (P : A →
 bind_law (Ok x) f P E Q F p next fails = next x p
 bind_law (Err left) f P E Q F p next fails = fails left p
 
-choose_law : {A : Type 0} (b : Bool) (x y : Result A ℕ) (P : A → Type 0) (E : ℕ → Type 0) → (b ≡ true → MatchResult x P E) → (b ≡ false → MatchResult y P E) → MatchResult (cond b x y) P E
+pub choose_law : {A : Type 0} (b : Bool) (x y : Result A ℕ) (P : A → Type 0) (E : ℕ → Type 0) → (b ≡ true → MatchResult x P E) → (b ≡ false → MatchResult y P E) → MatchResult (cond b x y) P E
 choose_law true x y P E passes fails = passes refl
 choose_law false x y P E passes fails = fails refl
 

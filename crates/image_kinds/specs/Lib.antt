@@ -1,3 +1,4 @@
 pub mod Paths
 pub mod Streams
 pub mod Fields
+pub mod Decoding

@@ -1,5 +1,5 @@
 -- How streams and images are spelled, and where bytes break that spelling.
-use Rattle.std.specs.Prelude.{◌≡◌, ℕ, Bool, true, false, ◌+◌, ◌-◌, ◌^◌, ◌<◌, ◌==◌, ◌&&◌, ◌||◌, if◌then◌else◌, List, [], ◌∷◌, ◌++◌, length, map, codes}
+use Rattle.std.specs.Prelude.{◌≡◌, ℕ, Bool, true, false, ◌+◌, ◌-◌, ◌^◌, ◌<◌, ◌==◌, ◌&&◌, ◌||◌, if◌then◌else◌, List, [], ◌∷◌, ◌++◌, length, map, codes, Option, Some, None}
 use Rattle.std.specs.List.{flat_map, AllByRecursion, starts_with}
 use Rattle.std.specs.Prelude.{nat_eq}
 use Rattle.std.specs.Int.{w16, w64, to_be_bytes}
@@ -20,8 +20,10 @@ abbrev pub path_of : Item → List ℕ
 path_of (Taken e) = e.path
 path_of (Kept path) = path
 
-abbrev pub entry_path : Entry → List ℕ
-entry_path e = e.path
+-- the entry that an item took
+abbrev pub taken_of : Item → Option Entry
+taken_of (Taken e) = Some e
+taken_of (Kept path) = None
 
 -- ---- the spelling: numbers are big-endian
 

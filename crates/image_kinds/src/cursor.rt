@@ -8,7 +8,7 @@ use crate::entry::{Entry, Item};
 use crate::format::Format;
 use crate::path::{follows, is_path_length};
 use site_types::{NoMemory, Text};
-use std::alloc::Global;
+use std::alloc::{AllocFailed, Global};
 use std::marker::Model;
 
 // Why a field wasn't read.
@@ -26,6 +26,17 @@ impl From<NoMemory> for FieldFault {
     ghost from_gives = { λ _ e. e ≡ fault.NoMemory };
 
     fn from(_: NoMemory) -> FieldFault {
+        FieldFault::NoMemory
+    }
+}
+
+impl<T: Drop> From<AllocFailed<T>> for FieldFault {
+    ghost use Rattle.std.specs.Prelude.{◌≡◌};
+    ghost use Rattle.image_kinds.specs.declared.cursor.FieldFault.TheVariants as fault;
+
+    ghost from_gives = { λ _ e. e ≡ fault.NoMemory };
+
+    fn from(_: AllocFailed<T>) -> FieldFault {
         FieldFault::NoMemory
     }
 }

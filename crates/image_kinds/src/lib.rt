@@ -2,8 +2,12 @@
 #![tactic(auto)]
 
 mod cursor;
+mod decode;
 mod entry;
 mod format;
 mod path;
+mod stream;
 
+pub use decode::StreamFault;
 pub use entry::{Entry, Item};
+pub use stream::{ImageBody, Stream};
