@@ -2,3 +2,4 @@ pub mod Reading
 pub mod Again
 pub mod Fronts
 pub mod Faults
+pub mod Values

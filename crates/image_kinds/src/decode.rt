@@ -56,7 +56,7 @@ fn last_path(items: &[Item]) -> &[u8]
 }
 
 // The items that these bytes spell.
-fn decode(alloc: Global, format: Format, bytes: &[u8]) -> Result<Vec<Item>, FieldFault>
+fn read_items(alloc: Global, format: Format, bytes: &[u8]) -> Result<Vec<Item>, FieldFault>
     ensures found { IfOk result (λ v. AreItems format v.items × (bytes.now ≡ spelled format v.items)) }
     ensures fault { IfErr result (IsFault format bytes.now) }
 {
@@ -67,4 +67,78 @@ fn decode(alloc: Global, format: Format, bytes: &[u8]) -> Result<Vec<Item>, Fiel
         items.push(item)?;
     }
     Ok(items)
+}
+
+fn decode(alloc: Global, format: Format, bytes: &[u8]) -> Result<Vec<Item>, StreamFault>
+    ensures found { IfOk result (λ v. AreItems format v.items × (bytes.now ≡ spelled format v.items)) }
+    ensures fault { IfErr result (IsStreamFault format bytes.now) }
+{
+    match read_items(alloc, format, bytes) {
+        Ok(items) => Ok(items),
+        Err(FieldFault::Broken(left)) => Err(StreamFault::Bad {
+            offset: (bytes.len() - left) as u64,
+        }),
+        Err(FieldFault::NoMemory) => Err(StreamFault::NoMemory),
+    }
+}
+
+fn entry_in(item: Item) -> Option<Entry>
+    ensures { result ≡ taken_of item }
+{
+    match item {
+        Item::Taken(entry) => Some(entry),
+        Item::Kept(_) => None,
+    }
+}
+
+// The entries that these items took, which are moved.
+fn entries_in(alloc: Global, items: Vec<Item>) -> Result<Vec<Entry>, NoMemory>
+    ensures { IfOk result (λ v. v.items ≡ filter_map taken_of items.items) }
+{
+    items.into_iter().filter_map(entry_in).collect(alloc)
+}
+
+fn read_stream(alloc: Global, bytes: &[u8]) -> Result<Stream, StreamFault>
+    ensures found { IfOk result (λ s. IsStream s × (bytes.now ≡ spelled_stream s)) }
+    ensures fault { IfErr result (IsStreamFault format.Stream bytes.now) }
+{
+    let items = decode(alloc, Format::Stream, bytes)?;
+    Ok(Stream::new(entries_in(alloc, items)?))
+}
+
+fn read_image(alloc: Global, bytes: &[u8]) -> Result<ImageBody, StreamFault>
+    ensures found { IfOk result (λ i. IsImage i × (bytes.now ≡ spelled_image i)) }
+    ensures fault { IfErr result (IsStreamFault format.Image bytes.now) }
+{
+    Ok(ImageBody::new(decode(alloc, Format::Image, bytes)?))
+}
+
+/// The stream that these bytes spell.
+#[tactic(auto, using(crate::proofs::Values::only_stream))]
+pub fn decode_stream(alloc: Global, bytes: &[u8]) -> Result<Stream, StreamFault>
+    // What is read is spelled so, each byte of it.
+    ensures found { IfOk result (λ s. IsStream s × (bytes.now ≡ spelled_stream s)) }
+
+    // What is spelled so is read, unless memory runs out.
+    ensures only { (s : List Entry) → IsStream s → bytes.now ≡ spelled_stream s → IsReadAs result s }
+
+    // The offset of a fault is that of the first field that breaks its rule.
+    ensures fault { IfErr result (IsStreamFault format.Stream bytes.now) }
+{
+    read_stream(alloc, bytes)
+}
+
+/// The image that these bytes spell.
+#[tactic(auto, using(crate::proofs::Values::only_image))]
+pub fn decode_image(alloc: Global, bytes: &[u8]) -> Result<ImageBody, StreamFault>
+    // What is read is spelled so, each byte of it.
+    ensures found { IfOk result (λ i. IsImage i × (bytes.now ≡ spelled_image i)) }
+
+    // What is spelled so is read, unless memory runs out.
+    ensures only { (i : List Item) → IsImage i → bytes.now ≡ spelled_image i → IsReadAs result i }
+
+    // The offset of a fault is that of the first field that breaks its rule.
+    ensures fault { IfErr result (IsStreamFault format.Image bytes.now) }
+{
+    read_image(alloc, bytes)
 }

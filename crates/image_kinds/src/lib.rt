@@ -8,6 +8,6 @@ mod format;
 mod path;
 mod stream;
 
-pub use decode::StreamFault;
+pub use decode::{StreamFault, decode_image, decode_stream};
 pub use entry::{Entry, Item};
 pub use stream::{ImageBody, Stream};

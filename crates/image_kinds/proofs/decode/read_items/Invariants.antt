@@ -1,6 +1,6 @@
 use Rattle.std.proofs.Common.{length}
 use Rattle.image_kinds.proofs.Fronts.{HasRead}
-use Rattle.image_kinds.proofs.decode.decode.Given as goal
+use Rattle.image_kinds.proofs.decode.read_items.Given as goal
 
 abbrev pub invariant-loop-items : goal.invariant-loop-items
 invariant-loop-items l = HasRead l.format l.bytes l.items.items l.cursor
