@@ -3,3 +3,4 @@ pub mod Again
 pub mod Fronts
 pub mod Faults
 pub mod Values
+pub mod Writing

@@ -3,11 +3,13 @@
 
 mod cursor;
 mod decode;
+mod encode;
 mod entry;
 mod format;
 mod path;
 mod stream;
 
 pub use decode::{StreamFault, decode_image, decode_stream};
+pub use encode::{encode_image, encode_stream};
 pub use entry::{Entry, Item};
 pub use stream::{ImageBody, Stream};
