@@ -4,3 +4,4 @@ pub mod Fronts
 pub mod Faults
 pub mod Values
 pub mod Writing
+pub mod Orders

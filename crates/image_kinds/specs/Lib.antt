@@ -2,3 +2,4 @@ pub mod Paths
 pub mod Streams
 pub mod Fields
 pub mod Decoding
+pub mod Images

@@ -6,10 +6,12 @@ mod decode;
 mod encode;
 mod entry;
 mod format;
+mod make;
 mod path;
 mod stream;
 
 pub use decode::{StreamFault, decode_image, decode_stream};
 pub use encode::{encode_image, encode_stream};
 pub use entry::{Entry, Item};
+pub use make::make_image;
 pub use stream::{ImageBody, Stream};

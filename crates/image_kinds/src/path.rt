@@ -15,7 +15,7 @@ fn is_path_byte(byte: u8) -> bool
     byte != 0 && byte != b'\n'
 }
 
-fn begins_with_slash(path: &[u8]) -> bool
+pub fn begins_with_slash(path: &[u8]) -> bool
     ensures { result ≡ begins_with_slash path.now }
 {
     matches!(path, [b'/', ..])
