@@ -5,3 +5,5 @@ pub mod Faults
 pub mod Values
 pub mod Writing
 pub mod Orders
+pub mod Trees
+pub mod Halving

@@ -3,3 +3,4 @@ pub mod Streams
 pub mod Fields
 pub mod Decoding
 pub mod Images
+pub mod Trees

@@ -7,6 +7,7 @@ mod encode;
 mod entry;
 mod format;
 mod make;
+mod merge;
 mod path;
 mod stream;
 
