@@ -7,3 +7,4 @@ pub mod Writing
 pub mod Orders
 pub mod Trees
 pub mod Halving
+pub mod Chains

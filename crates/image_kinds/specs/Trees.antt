@@ -32,6 +32,11 @@ last_image (image ∷ next ∷ later) = last_image (next ∷ later)
 abbrev pub tree : List (List Item) → List Entry
 tree images = filter_map (λ item. last_taken (path_of item) images) (last_image images)
 
+-- the same by an item of the last image behind others: the entry that it took, or else the one that the last of the others took
+abbrev pub entry_behind : List (List Item) → Item → Option Entry
+entry_behind earlier (Taken e) = Some e
+entry_behind earlier (Kept path) = last_taken path earlier
+
 -- ---- the law of chains
 
 -- a stream that a client sent, and the time of the image that was made of it

@@ -15,4 +15,5 @@ pub use decode::{StreamFault, decode_image, decode_stream};
 pub use encode::{encode_image, encode_stream};
 pub use entry::{Entry, Item};
 pub use make::make_image;
+pub use merge::merge_chain;
 pub use stream::{ImageBody, Stream};

@@ -2,9 +2,12 @@ ghost use Rattle.std.specs.Prelude.{◌≡◌, ◌<◌, ◌++◌, ◌∷◌, [],
 ghost use Rattle.std.specs.Option.{option_copied};
 ghost use Rattle.image_kinds.specs.Paths.{are_rising};
 ghost use Rattle.image_kinds.specs.Streams.{path_of, taken_of, IsEntry};
-ghost use Rattle.image_kinds.specs.Trees.{taken_in, or_else, last_taken, tree};
+ghost use Rattle.image_kinds.specs.Trees.{taken_in, or_else, last_taken, entry_behind, tree};
 
 use crate::entry::{Entry, Item};
+use crate::stream::{ImageBody, Stream};
+use site_types::{NoMemory, Text};
+use std::alloc::Global;
 use std::cmp::Ordering;
 
 impl Item {
@@ -33,4 +36,59 @@ fn taken_in<'a>(items: &'a [Item], path: &[u8]) -> Option<&'a Entry>
         }
     }
     None
+}
+
+// The entry as which the last of some images that took a path took it.
+fn last_taken<'a>(images: &'a [ImageBody], path: &[u8]) -> Option<&'a Entry>
+    ensures { option_copied result ≡ last_taken path.now images.now }
+{
+    let mut rest = images;
+    while let [earlier @ .., image] = rest {
+        if let Some(entry) = taken_in(image.items(), path) {
+            return Some(entry);
+        }
+        rest = earlier;
+    }
+    None
+}
+
+// The entry of an item of the last image behind others.
+fn entry_behind<'a>(earlier: &'a [ImageBody], item: &'a Item) -> Option<&'a Entry>
+    ensures { option_copied result ≡ entry_behind earlier.now item.now }
+{
+    match item {
+        Item::Taken(entry) => Some(entry),
+        Item::Kept(path) => last_taken(earlier, path.bytes()),
+    }
+}
+
+fn copy_of(alloc: Global, entry: &Entry) -> Result<Entry, NoMemory>
+    ensures same { IfOk result (λ e. e ≡ entry.now) }
+    ensures entry { IsEntry entry.now }
+{
+    let (path, content) = (entry.path.bytes(), entry.content.bytes());
+    let time = entry.time;
+    Ok(Entry {
+        path: Text::new(alloc, path)?,
+        time,
+        content: Text::new(alloc, content)?,
+    })
+}
+
+/// The tree of a chain of images.
+pub fn merge_chain(alloc: Global, images: &[ImageBody]) -> Result<Stream, NoMemory>
+    requires { 0 < length images.now }
+    ensures { IfOk result (λ t. t ≡ tree images.now) }
+{
+    let [earlier @ .., last] = images else {
+        unreachable!();
+    };
+    let items = last.items();
+    let mut entries = Vec::new(alloc);
+    for item in items {
+        if let Some(entry) = entry_behind(earlier, item) {
+            entries.push(copy_of(alloc, entry)?)?;
+        }
+    }
+    Ok(Stream::new(entries))
 }
