@@ -8,3 +8,4 @@ pub mod Orders
 pub mod Trees
 pub mod Halving
 pub mod Chains
+pub mod ChainLaw

@@ -32,7 +32,7 @@ rise_sooner a b (p ∷ paths) before rising =
     let path = and_parts (is_path p) (is_before b p) parts.0 in
     and_from (follows a p) (rise_behind p paths) (and_from (is_path p) (is_before a p) path.0 (before_before a b p before path.1)) parts.1
 
-path_made : (reference : Option ℕ) (e : Entry) → path_of (item_made reference e) ≡ e.path
+pub path_made : (reference : Option ℕ) (e : Entry) → path_of (item_made reference e) ≡ e.path
 path_made None e = refl
 path_made (Some r) e = path_chosen (nat_le r e.time) e
   where

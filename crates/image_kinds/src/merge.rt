@@ -2,7 +2,8 @@ ghost use Rattle.std.specs.Prelude.{◌≡◌, ◌<◌, ◌++◌, ◌∷◌, [],
 ghost use Rattle.std.specs.Option.{option_copied};
 ghost use Rattle.image_kinds.specs.Paths.{are_rising};
 ghost use Rattle.image_kinds.specs.Streams.{path_of, taken_of, IsEntry};
-ghost use Rattle.image_kinds.specs.Trees.{taken_in, or_else, last_taken, entry_behind, tree};
+ghost use Rattle.image_kinds.specs.Images.{selected};
+ghost use Rattle.image_kinds.specs.Trees.{taken_in, last_taken, entry_behind, tree, Backup, chain_of, last_stream, AreBackups};
 
 use crate::entry::{Entry, Item};
 use crate::stream::{ImageBody, Stream};
@@ -75,8 +76,7 @@ fn copy_of(alloc: Global, entry: &Entry) -> Result<Entry, NoMemory>
     })
 }
 
-/// The tree of a chain of images.
-pub fn merge_chain(alloc: Global, images: &[ImageBody]) -> Result<Stream, NoMemory>
+fn merged(alloc: Global, images: &[ImageBody]) -> Result<Stream, NoMemory>
     requires { 0 < length images.now }
     ensures { IfOk result (λ t. t ≡ tree images.now) }
 {
@@ -91,4 +91,19 @@ pub fn merge_chain(alloc: Global, images: &[ImageBody]) -> Result<Stream, NoMemo
         }
     }
     Ok(Stream::new(entries))
+}
+
+/// The tree of a chain of images, the first of them first: what restoring the chain's last image gives.
+#[tactic(auto, using(crate::proofs::ChainLaw::law_of_chains))]
+pub fn merge_chain(alloc: Global, images: &[ImageBody]) -> Result<Stream, NoMemory>
+    requires { 0 < length images.now }
+
+    // Each path that the last image names and that some image took, with the time and content of the last one that took it.
+    ensures tree { IfOk result (λ t. t ≡ tree images.now) }
+
+    // A chain of a client's backups gives the selected part of the last stream.
+    ensures law { (selections : List (List ℕ)) (backups : List Backup) → images.now ≡ chain_of selections backups → AreBackups selections backups
+        → IfOk result (λ t. t ≡ selected selections (last_stream backups)) }
+{
+    merged(alloc, images)
 }

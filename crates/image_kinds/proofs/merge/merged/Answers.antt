@@ -8,8 +8,8 @@ use Rattle.image_kinds.specs.declared.entry.Item.{Item}
 use Rattle.image_kinds.specs.Streams.{IsImage}
 use Rattle.image_kinds.specs.Trees.{entry_behind}
 use Rattle.image_kinds.proofs.Chains.{merged_more, entries_more, merged_is, merged_all}
-use Rattle.image_kinds.proofs.merge.merge_chain.Goals as goal
-use Rattle.image_kinds.proofs.merge.merge_chain.Goals.{in-Some+in_ok-copy_of+in_ok-push, in_default-entry_behind}
+use Rattle.image_kinds.proofs.merge.merged.Goals as goal
+use Rattle.image_kinds.proofs.merge.merged.Goals.{in-Some+in_ok-copy_of+in_ok-push, in_default-entry_behind}
 
 pub loop-item-preserved : goal.loop-item-preserved
 loop-item-preserved c =

@@ -5,7 +5,7 @@ use Rattle.image_kinds.specs.declared.entry.Item.TheVariants.{Taken}
 use Rattle.image_kinds.specs.declared.format.Format.TheVariants as format
 use Rattle.image_kinds.specs.Streams.{IsItem}
 use Rattle.image_kinds.specs.Trees.{entry_behind}
-use Rattle.image_kinds.proofs.merge.merge_chain.Given as goal
+use Rattle.image_kinds.proofs.merge.merged.Given as goal
 
 abbrev pub invariant-loop-item : goal.invariant-loop-item
 invariant-loop-item l = record {
