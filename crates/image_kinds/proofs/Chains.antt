@@ -47,7 +47,7 @@ behind_each earlier front (x ∷ rest) rising =
     let whole = front ++ x ∷ rest in
     let moved : front ++ x ∷ rest ≡ (front ++ x ∷ []) ++ rest = sym (append_assoc front (x ∷ []) rest) in
     let here : entry_behind earlier x ≡ last_taken (path_of x) (earlier ++ whole ∷ []) =
-      behind_chosen earlier x ∙ ap (λ (o : Option Entry). or_else o (last_taken (path_of x) earlier)) (sym (taken_here [] front x rest rising)) ∙ sym (last_taken_more (path_of x) earlier whole) in
+    behind_chosen earlier x ∙ ap (λ (o : Option Entry). or_else o (last_taken (path_of x) earlier)) (sym (taken_here [] front x rest rising)) ∙ sym (last_taken_more (path_of x) earlier whole) in
     let later = behind_each earlier (front ++ x ∷ []) rest (subst (λ (w : List Item). rise_behind [] (paths w) ≡ true) moved rising) in
     let there : filter_map (entry_behind earlier) rest ≡ filter_map (λ i. last_taken (path_of i) (earlier ++ whole ∷ [])) rest = subst (λ (w : List Item). filter_map (entry_behind earlier) rest ≡ filter_map (λ i. last_taken (path_of i) (earlier ++ w ∷ [])) rest) (sym moved) later in
     ap (λ (o : Option Entry). cons_option o (filter_map (entry_behind earlier) rest)) here ∙ ap (λ (es : List Entry). cons_option (last_taken (path_of x) (earlier ++ whole ∷ [])) es) there

@@ -89,9 +89,9 @@ number_law w limit wide bytes fits =
     choose_law (ltb (length bytes) (byte_len w)) (Err 0) (Ok (from_be_bytes w (take (byte_len w) bytes), drop (byte_len w) bytes)) (TakesNumber w limit bytes) (EndsWithin (byte_len w) bytes)
     (λ short. (ltb-true (length bytes) (byte_len w) short, refl))
     (λ enough.
-        let long : byte_len w ≤ length bytes = ltb-false _ _ enough in
-        let front : to_be_bytes w (from_be_bytes w (take (byte_len w) bytes)) ≡ take (byte_len w) bytes = wide.back (take (byte_len w) bytes) (omega (arith, length-take (byte_len w) bytes)) (IsBytes-take (byte_len w) bytes fits) in
-        (record { parts = rw front (sym (take-append-drop (byte_len w) bytes)); rest_fits = IsBytes-drop (byte_len w) bytes fits }, wide.below (take (byte_len w) bytes) (IsBytes-take (byte_len w) bytes fits)))
+    let long : byte_len w ≤ length bytes = ltb-false _ _ enough in
+    let front : to_be_bytes w (from_be_bytes w (take (byte_len w) bytes)) ≡ take (byte_len w) bytes = wide.back (take (byte_len w) bytes) (omega (arith, length-take (byte_len w) bytes)) (IsBytes-take (byte_len w) bytes fits) in
+    (record { parts = rw front (sym (take-append-drop (byte_len w) bytes)); rest_fits = IsBytes-drop (byte_len w) bytes fits }, wide.below (take (byte_len w) bytes) (IsBytes-take (byte_len w) bytes fits)))
 
 pub number_again : (w : Width) (limit : ℕ) (wide : IsWide w limit) (n : ℕ) (rest : List ℕ) → n < limit → number_at w (to_be_bytes w n ++ rest) ≡ Ok (n, rest)
 number_again w limit wide n rest lt =
@@ -107,8 +107,8 @@ text_law count bytes fits =
     choose_law (ltb (length bytes) count) (Err 0) (Ok (take count bytes, drop count bytes)) (TakesText count bytes) (EndsWithin count bytes)
     (λ short. (ltb-true (length bytes) count short, refl))
     (λ enough.
-        let long : count ≤ length bytes = ltb-false _ _ enough in
-        (record { parts = sym (take-append-drop count bytes); rest_fits = IsBytes-drop count bytes fits }, omega (arith, length-take count bytes)))
+    let long : count ≤ length bytes = ltb-false _ _ enough in
+    (record { parts = sym (take-append-drop count bytes); rest_fits = IsBytes-drop count bytes fits }, omega (arith, length-take count bytes)))
 
 pub text_again : (text rest : List ℕ) → text_at (length text) (text ++ rest) ≡ Ok (text, rest)
 text_again text rest =
@@ -133,9 +133,9 @@ path_bytes_law : (last bytes : List ℕ) (n : ℕ × List ℕ) → TakesLength b
 path_bytes_law last bytes n took =
     bind_law (text_at n.0 n.1) (λ p. cond (follows last p.0) (Ok p) (Err (length n.1))) (TakesText n.0 n.1) (EndsWithin n.0 n.1) (TakesPath last bytes) (PathBreaks last bytes) (text_law n.0 n.1 took.0.rest_fits)
     (λ p text.
-        let whole : Takes bytes (spelled_path p.0) p.1 = subst (λ (k : ℕ). Takes bytes (to_be_bytes w16 k ++ p.0) p.1) (sym text.1) (Takes-then bytes (to_be_bytes w16 n.0) n.1 p.0 p.1 took.0 text.0) in
-        choose_law (follows last p.0) (Ok p) (Err (length n.1)) (TakesPath last bytes) (PathBreaks last bytes) (λ passes. (whole, passes))
-        (λ fails. wrong_path p.0 p.1 (ap is_path_length text.1 ∙ took.1) whole.parts fails (ap (λ (w : List ℕ). length w) text.0.parts)))
+    let whole : Takes bytes (spelled_path p.0) p.1 = subst (λ (k : ℕ). Takes bytes (to_be_bytes w16 k ++ p.0) p.1) (sym text.1) (Takes-then bytes (to_be_bytes w16 n.0) n.1 p.0 p.1 took.0 text.0) in
+    choose_law (follows last p.0) (Ok p) (Err (length n.1)) (TakesPath last bytes) (PathBreaks last bytes) (λ passes. (whole, passes))
+    (λ fails. wrong_path p.0 p.1 (ap is_path_length text.1 ∙ took.1) whole.parts fails (ap (λ (w : List ℕ). length w) text.0.parts)))
     (λ left ends. path_ends n.0 n.1 took.1 took.0.parts ends.0 ends.1)
 
 pub path_law : (last bytes : List ℕ) → IsBytes bytes → MatchResult (path_at last bytes) (TakesPath last bytes) (PathBreaks last bytes)
@@ -234,10 +234,10 @@ tagged_law f last tag rest fits =
     choose_law (eqb tag 0) (end_at rest) (cond (eqb tag 1) (taken_at last rest) (cond (eqb tag 2 && keeps f) (kept_at last rest) (Err (length (tag ∷ rest))))) P E
     (λ is. subst (λ (t : ℕ). MatchResult (end_at rest) (TakesItem f last (t ∷ rest)) (Breaks f last (t ∷ rest))) (sym (eqb-true tag 0 is)) (end_law f last rest))
     (λ no_end. choose_law (eqb tag 1) (taken_at last rest) (cond (eqb tag 2 && keeps f) (kept_at last rest) (Err (length (tag ∷ rest)))) P E
-        (λ is. subst (λ (t : ℕ). MatchResult (taken_at last rest) (TakesItem f last (t ∷ rest)) (Breaks f last (t ∷ rest))) (sym (eqb-true tag 1 is)) (taken_law f last rest fits))
-        (λ not_taken. choose_law (eqb tag 2 && keeps f) (kept_at last rest) (Err (length (tag ∷ rest))) P E
-            (λ is. let both = and_parts (eqb tag 2) (keeps f) is in subst (λ (t : ℕ). MatchResult (kept_at last rest) (TakesItem f last (t ∷ rest)) (Breaks f last (t ∷ rest))) (sym (eqb-true tag 2 both.0)) (kept_law f last rest both.1 fits))
-            (λ not_kept. wrong_tag tag rest refl (or_from (eqb tag 0) (names_path f tag) no_end (or_from (eqb tag 1) (eqb tag 2 && keeps f) not_taken not_kept)) refl)))
+    (λ is. subst (λ (t : ℕ). MatchResult (taken_at last rest) (TakesItem f last (t ∷ rest)) (Breaks f last (t ∷ rest))) (sym (eqb-true tag 1 is)) (taken_law f last rest fits))
+    (λ not_taken. choose_law (eqb tag 2 && keeps f) (kept_at last rest) (Err (length (tag ∷ rest))) P E
+    (λ is. let both = and_parts (eqb tag 2) (keeps f) is in subst (λ (t : ℕ). MatchResult (kept_at last rest) (TakesItem f last (t ∷ rest)) (Breaks f last (t ∷ rest))) (sym (eqb-true tag 2 both.0)) (kept_law f last rest both.1 fits))
+    (λ not_kept. wrong_tag tag rest refl (or_from (eqb tag 0) (names_path f tag) no_end (or_from (eqb tag 1) (eqb tag 2 && keeps f) not_taken not_kept)) refl)))
 
 -- an item or the end, and nothing else, is read where it is spelled; else the first field that breaks its rule is found
 pub item_law : (f : Format) (last bytes : List ℕ) → IsBytes bytes → MatchResult (item_at f last bytes) (TakesItem f last bytes) (Breaks f last bytes)

@@ -4,6 +4,7 @@ ghost use Rattle.image_kinds.specs.Streams.{taken_of, AreItems, IsStream, IsImag
 ghost use Rattle.image_kinds.specs.Decoding.{IsFault, IsStreamFault, IsReadAs};
 ghost use Rattle.image_kinds.specs.declared.entry.Entry.{Entry};
 ghost use Rattle.image_kinds.specs.declared.entry.Item.{Item};
+ghost use Rattle.image_kinds.specs.declared.format.Format.{Format};
 ghost use Rattle.image_kinds.specs.declared.format.Format.TheVariants as format;
 
 use crate::cursor::{Cursor, FieldFault};
@@ -17,9 +18,7 @@ use std::alloc::Global;
 #[derive(Clone, Copy, Debug)]
 pub enum StreamFault {
     /// The first field that breaks its rule begins at this offset, in bytes. Where the input ends within a field it is the input's length.
-    Bad {
-        offset: u64,
-    },
+    Bad { offset: u64 },
     NoMemory,
 }
 
@@ -142,3 +141,11 @@ pub fn decode_image(alloc: Global, bytes: &[u8]) -> Result<ImageBody, StreamFaul
 {
     read_image(alloc, bytes)
 }
+
+/// What bytes spell is one value, and where they break is one offset; none that spell a value break.
+pub fn one_reading()
+    ensures stream { (s t : List Entry) → IsStream s → IsStream t → spelled_stream s ≡ spelled_stream t → s ≡ t }
+    ensures image { (i j : List Item) → IsImage i → IsImage j → spelled_image i ≡ spelled_image j → i ≡ j }
+    ensures offset { (f : Format) (bytes : List ℕ) (m n : ℕ) → IsBad f bytes m → IsBad f bytes n → m ≡ n }
+    ensures apart { (f : Format) (items : List Item) (n : ℕ) → AreItems f items → IsBad f (spelled f items) n → ⊥ }
+{}

@@ -11,9 +11,12 @@ mod merge;
 mod path;
 mod stream;
 
-pub use decode::{StreamFault, decode_image, decode_stream};
+pub use decode::{StreamFault, decode_image, decode_stream, one_reading};
 pub use encode::{encode_image, encode_stream};
 pub use entry::{Entry, Item};
 pub use make::make_image;
 pub use merge::merge_chain;
 pub use stream::{ImageBody, Stream};
+
+#[cfg(test)]
+mod tests;
