@@ -79,46 +79,50 @@ fn a_cut_or_longer_tree_breaks_at_its_end(rt: HostRuntime) -> Result<(), Fail> {
     Ok(())
 }
 
+// Bytes that are no stream, and where each breaks.
+const STREAM_FAULTS: [(&[u8], u64); 18] = [
+    (b"", 0),
+    (b"NB", 2),
+    (b"NX", 0),
+    (b"NBC2", 0),
+    (b"NBC2\x00", 0),
+    (b"NBC1", 4),
+    (b"NBC1\x03\x00", 4),
+    (b"NBC1\x02\x00\x01/\x00", 4),
+    (b"NBC1\x01\x00", 6),
+    (b"NBC1\x01\x00\x00/", 5),
+    (b"NBC1\x01\x04\x01/", 5),
+    (b"NBC1\x01\x00\x02/\x00", 7),
+    (b"NBC1\x01\x00\x02/\n", 7),
+    (b"NBC1\x01\x00\x01a", 7),
+    (b"NBC1\x01\x00\x03a", 8),
+    (
+        b"NBC1\x01\x00\x01/\x00\x00\x00\x00\x00\x00\x00\x01\x00\x00\x00\x00\x00\x00\x00\x05ab",
+        26,
+    ),
+    (
+        b"NBC1\x01\x00\x02/b\x00\x00\x00\x00\x00\x00\x00\x01\x00\x00\x00\x00\x00\x00\x00\x00\x01\x00\x02/a",
+        28,
+    ),
+    (b"NBC1\x00\x00\x00", 5),
+];
+
+// The same of images.
+const IMAGE_FAULTS: [(&[u8], u64); 5] = [
+    (b"NBC1\x00", 0),
+    (b"NBI1\x03", 4),
+    (b"NBI1\x02\x00\x02/a\x02\x00\x02/a\x00", 12),
+    (b"NBI1\x02\x00\x02/b\x02\x00\x03/ab\x00", 12),
+    (b"NBI1\x02\x00\x02/a", 9),
+];
+
 #[test]
 fn each_fault_has_its_offset(rt: HostRuntime) -> Result<(), Fail> {
-    let streams: [(&[u8], u64); 18] = [
-        (b"", 0),
-        (b"NB", 2),
-        (b"NX", 0),
-        (b"NBC2", 0),
-        (b"NBC2\x00", 0),
-        (b"NBC1", 4),
-        (b"NBC1\x03\x00", 4),
-        (b"NBC1\x02\x00\x01/\x00", 4),
-        (b"NBC1\x01\x00", 6),
-        (b"NBC1\x01\x00\x00/", 5),
-        (b"NBC1\x01\x04\x01/", 5),
-        (b"NBC1\x01\x00\x02/\x00", 7),
-        (b"NBC1\x01\x00\x02/\n", 7),
-        (b"NBC1\x01\x00\x01a", 7),
-        (b"NBC1\x01\x00\x03a", 8),
-        (
-            b"NBC1\x01\x00\x01/\x00\x00\x00\x00\x00\x00\x00\x01\x00\x00\x00\x00\x00\x00\x00\x05ab",
-            26,
-        ),
-        (
-            b"NBC1\x01\x00\x02/b\x00\x00\x00\x00\x00\x00\x00\x01\x00\x00\x00\x00\x00\x00\x00\x00\x01\x00\x02/a",
-            28,
-        ),
-        (b"NBC1\x00\x00\x00", 5),
-    ];
-    for (bytes, at) in streams {
+    for (bytes, at) in STREAM_FAULTS {
         let fault = decode_stream(rt.alloc(), bytes).err().ok_or("a fault")?;
         assert_eq!(rt; offset(fault), at, "in {bytes:?}");
     }
-    let images: [(&[u8], u64); 5] = [
-        (b"NBC1\x00", 0),
-        (b"NBI1\x03", 4),
-        (b"NBI1\x02\x00\x02/a\x02\x00\x02/a\x00", 12),
-        (b"NBI1\x02\x00\x02/b\x02\x00\x03/ab\x00", 12),
-        (b"NBI1\x02\x00\x02/a", 9),
-    ];
-    for (bytes, at) in images {
+    for (bytes, at) in IMAGE_FAULTS {
         let fault = decode_image(rt.alloc(), bytes).err().ok_or("a fault")?;
         assert_eq!(rt; offset(fault), at, "in {bytes:?}");
     }
@@ -155,23 +159,26 @@ fn image(
     Ok(make_image(alloc, &stream(alloc, files)?, &selections, reference)?)
 }
 
+// The image of these files by the selection `/a` and the reference 100 names two of them, and takes one.
+const FILES: [File<'static>; 4] = [
+    (b"/a", 99, b"old"),
+    (b"/a/b", 100, b"new"),
+    (b"/ab", 100, b"other"),
+    (b"/b", 100, b"other"),
+];
+
+const MADE: &[u8] =
+    b"NBI1\x02\x00\x02/a\x01\x00\x04/a/b\x00\x00\x00\x00\x00\x00\x00\x64\x00\x00\x00\x00\x00\x00\x00\x03new\x00";
+
 #[test]
 fn an_image_names_what_is_selected(rt: HostRuntime) -> Result<(), Fail> {
-    let files: [File; 4] = [
-        (b"/a", 99, b"old"),
-        (b"/a/b", 100, b"new"),
-        (b"/ab", 100, b"other"),
-        (b"/b", 100, b"other"),
-    ];
-    let made = image(rt.alloc(), &files, b"/a", Some(100))?;
+    let made = image(rt.alloc(), &FILES, b"/a", Some(100))?;
     let bytes = encode_image(rt.alloc(), &made)?;
-    let want =
-        b"NBI1\x02\x00\x02/a\x01\x00\x04/a/b\x00\x00\x00\x00\x00\x00\x00\x64\x00\x00\x00\x00\x00\x00\x00\x03new\x00";
-    assert_eq!(rt; bytes.as_slice(), want.as_slice());
+    assert_eq!(rt; bytes.as_slice(), MADE);
     let again = decode_image(rt.alloc(), &bytes).ok().ok_or("an image")?;
     let spelled_again = encode_image(rt.alloc(), &again)?;
-    assert_eq!(rt; spelled_again.as_slice(), want.as_slice());
-    let whole = image(rt.alloc(), &files, b"/", None)?;
+    assert_eq!(rt; spelled_again.as_slice(), MADE);
+    let whole = image(rt.alloc(), &FILES, b"/", None)?;
     assert_eq!(rt; whole.items().len(), 4);
     Ok(())
 }
@@ -188,44 +195,50 @@ fn restored(alloc: Global, chain: &[(&[File], Option<u64>)]) -> Result<Vec<u8>, 
     Ok(encode_stream(alloc, &merge_chain(alloc, &images)?)?)
 }
 
+// The files of four days, and the chains of a week with what each gives.
+const FULL: [File<'static>; 2] = [(b"/a", 900, b"A1"), (b"/b", 900, b"B1")];
+
+const SECOND: [File<'static>; 2] = [(b"/a", 1500, b"A2"), (b"/b", 900, b"B1")];
+
+const CUMULATIVE: [File<'static>; 3] = [
+    (b"/a", 1500, b"A2"),
+    (b"/b", 900, b"B1"),
+    (b"/c", 2500, b"C1"),
+];
+
+const LAST: [File<'static>; 2] = [(b"/a", 1500, b"A2"), (b"/c", 3500, b"C2")];
+
+const CHAINS: [(&[(&[File<'static>], Option<u64>)], &[File<'static>]); 5] = [
+    (&[(&FULL, None)], &FULL),
+    (&[(&FULL, None), (&SECOND, Some(1000))], &SECOND),
+    (&[(&FULL, None), (&CUMULATIVE, Some(1000))], &CUMULATIVE),
+    (
+        &[
+            (&FULL, None),
+            (&CUMULATIVE, Some(1000)),
+            (&LAST, Some(3000)),
+        ],
+        &LAST,
+    ),
+    (
+        &[
+            (&FULL, None),
+            (&SECOND, Some(1000)),
+            (&CUMULATIVE, Some(2000)),
+            (&LAST, Some(3000)),
+        ],
+        &LAST,
+    ),
+];
+
 #[test]
 fn a_week_is_restored_at_each_moment(rt: HostRuntime) -> Result<(), Fail> {
-    let full: [File; 2] = [(b"/a", 900, b"A1"), (b"/b", 900, b"B1")];
-    let second: [File; 2] = [(b"/a", 1500, b"A2"), (b"/b", 900, b"B1")];
-    let cumulative: [File; 3] = [
-        (b"/a", 1500, b"A2"),
-        (b"/b", 900, b"B1"),
-        (b"/c", 2500, b"C1"),
-    ];
-    let last: [File; 2] = [(b"/a", 1500, b"A2"), (b"/c", 3500, b"C2")];
-    let chains: [(&[(&[File], Option<u64>)], &[File]); 5] = [
-        (&[(&full, None)], &full),
-        (&[(&full, None), (&second, Some(1000))], &second),
-        (&[(&full, None), (&cumulative, Some(1000))], &cumulative),
-        (
-            &[
-                (&full, None),
-                (&cumulative, Some(1000)),
-                (&last, Some(3000)),
-            ],
-            &last,
-        ),
-        (
-            &[
-                (&full, None),
-                (&second, Some(1000)),
-                (&cumulative, Some(2000)),
-                (&last, Some(3000)),
-            ],
-            &last,
-        ),
-    ];
-    for (chain, tree) in chains {
+    for (chain, tree) in CHAINS {
         let bytes = restored(rt.alloc(), chain)?;
         let want = spelled(rt.alloc(), tree)?;
         assert_eq!(rt; bytes.as_slice(), want.as_slice());
     }
-    let week = restored(rt.alloc(), chains[3].0)?;
+    let week = restored(rt.alloc(), CHAINS[3].0)?;
     assert_eq!(rt; week.as_slice(), TREE.as_slice());
     Ok(())
 }
