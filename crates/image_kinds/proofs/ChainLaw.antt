@@ -1,18 +1,17 @@
 -- The law of chains: a chain of a client's backups gives the selected part of its last stream.
-use Rattle.std.proofs.Common.{◌≡◌, ℕ, ◌+◌, ◌-◌, ◌<◌, ◌≤◌, zero, suc, Bool, true, false, cond, List, [], ◌∷◌, ◌++◌, length, get_or, take, drop, Option, Some, None, refl, sym, ap, subst, ◌∙◌, append_assoc, arith, inl, inr}
-use Rattle.std.specs.Prelude.{◌⊎◌, map, filter, nat_le, Contains, Result, Ok, Err, IfOk}
+use Rattle.std.proofs.Common.{◌≡◌, ℕ, ◌+◌, suc, true, List, [], ◌∷◌, ◌++◌, take, drop, Option, Some, None, refl, sym, ap, subst, ◌∙◌, arith, inl, inr}
+use Rattle.std.specs.Prelude.{◌⊎◌, map, nat_le, Contains, Result, Ok, Err, IfOk}
 use Rattle.std.specs.List.{AllByRecursion, filter_map, cons_option}
-use Rattle.std.proofs.lemmas.Bool.{and_parts, cond-true, cond-false, cases_Bool, leb-false}
-use Rattle.std.proofs.lemmas.List.{map-append, take-append-drop, drop_more, get_or_default}
+use Rattle.std.proofs.lemmas.Bool.{cond-true, cond-false, cases_Bool, leb-false}
+use Rattle.std.proofs.lemmas.List.{map-append, take-append-drop, drop_more}
 use Rattle.image_kinds.specs.Paths.{rise_behind}
 use Rattle.image_kinds.specs.declared.entry.Entry.{Entry}
 use Rattle.image_kinds.specs.declared.entry.Item.{Item}
 use Rattle.image_kinds.specs.declared.entry.Item.TheVariants.{Taken, Kept}
-use Rattle.image_kinds.specs.declared.format.Format.TheVariants as format
-use Rattle.image_kinds.specs.Streams.{path_of, taken_of, IsEntry, IsItem, IsStream, IsImage}
-use Rattle.image_kinds.specs.Images.{is_selected, selected, item_made, made}
-use Rattle.image_kinds.specs.Trees.{taken_in, or_else, last_taken, last_image, tree, Backup, images_behind, chain_of, last_stream, KeepsOld, AllKeepOld, IsDated, AreBackups}
-use Rattle.image_kinds.proofs.Orders.{made_is, selected_is, path_made}
+use Rattle.image_kinds.specs.Streams.{path_of, taken_of, IsStream}
+use Rattle.image_kinds.specs.Images.{selected, item_made, made}
+use Rattle.image_kinds.specs.Trees.{taken_in, or_else, last_taken, last_image, tree, Backup, images_behind, chain_of, last_stream, KeepsOld, AllKeepOld, AreBackups}
+use Rattle.image_kinds.proofs.Orders.{made_is, path_made}
 use Rattle.image_kinds.proofs.Trees.{paths, taken_here}
 
 -- an element stands between those before it and those behind it

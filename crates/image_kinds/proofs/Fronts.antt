@@ -1,23 +1,20 @@
 -- Bytes begin with one list of whole items, and break in one place.
-use Rattle.std.proofs.Common.{get_or, drop, ◌≡◌, ℕ, zero, suc, ◌+◌, ◌-◌, ◌^◌, ◌<◌, ◌≤◌, Bool, true, false, cond, List, [], ◌∷◌, ◌++◌, length, Option, Some, None, Result, Ok, Err, refl, sym, ap, subst, ◌∙◌, append_assoc, arith}
-use Rattle.std.specs.Prelude.{MatchResult, map, nat_eq}
-use Rattle.std.specs.List.{flat_map, AllByRecursion, starts_with, filter_map}
-use Rattle.std.proofs.lemmas.Bool.{cond-true, cond-false, and_parts, and_from, both_ways}
+use Rattle.std.proofs.Common.{get_or, ◌≡◌, ℕ, suc, ◌-◌, ◌<◌, ◌≤◌, true, false, List, [], ◌∷◌, ◌++◌, length, Option, Some, None, Ok, Err, refl, sym, ap, subst, ◌∙◌, append_assoc, arith}
+use Rattle.std.specs.Prelude.{map, nat_eq}
+use Rattle.std.specs.List.{flat_map, AllByRecursion, starts_with}
+use Rattle.std.proofs.lemmas.Bool.{and_parts, and_from, both_ways}
 use Rattle.std.proofs.lemmas.Result.{MatchResult-at_ok, MatchResult-at_err}
-use Rattle.std.proofs.lemmas.List.{length-append, append_cancel_left, flat_map_more, append-nil}
+use Rattle.std.proofs.lemmas.List.{length-append, append_cancel_left, flat_map_more}
 use Rattle.std.specs.Int.{w16, to_be_bytes}
-use Rattle.std.proofs.lemmas.Bool.Decides.{Decides-eqb}
-use Rattle.std.proofs.lemmas.Slice.Eq.{starts_is}
 use Rattle.image_kinds.specs.Paths.{follows, rise_behind}
-use Rattle.image_kinds.specs.declared.entry.Entry.{Entry}
 use Rattle.image_kinds.specs.declared.entry.Item.{Item}
 use Rattle.image_kinds.specs.declared.entry.Item.TheVariants.{Taken, Kept}
 use Rattle.image_kinds.specs.declared.format.Format.{Format}
 use Rattle.image_kinds.specs.declared.format.Format.TheVariants as format
-use Rattle.image_kinds.specs.Streams.{path_of, spelled_item, spelled, letters_of, keeps, IsItem, AreItems, last_behind, last_path, spelled_path, PathBreaks, path_length_ends, wrong_path_length, path_ends, wrong_path, Breaks, no_tag, wrong_tag, behind_end, in_path, in_file, IsBad, in_letters, behind_items}
-use Rattle.image_kinds.specs.Fields.{Read, item_at, letters_at}
-use Rattle.image_kinds.proofs.Reading.{IsBytes, IsBytes-drop, choose_law, Takes, TakesItem, item_law}
-use Rattle.image_kinds.proofs.Again.{item_again, end_again, item_stops}
+use Rattle.image_kinds.specs.Streams.{path_of, spelled_item, spelled, letters_of, IsItem, AreItems, last_behind, last_path, PathBreaks, path_length_ends, wrong_path_length, path_ends, wrong_path, Breaks, no_tag, wrong_tag, behind_end, in_path, in_file, IsBad, in_letters, behind_items}
+use Rattle.image_kinds.specs.Fields.{Read, item_at}
+use Rattle.image_kinds.proofs.Reading.{IsBytes, TakesItem, item_law}
+use Rattle.image_kinds.proofs.Again.{item_again, item_stops}
 
 -- no whole item stands behind the others
 pub data Halts (f : Format) (last rest : List ℕ) : Type 0 where
@@ -157,30 +154,6 @@ falls f last rest i after fits read =
     shorter rest (Taken e) after parts = omega (arith, ap (λ (w : List ℕ). length w) parts, length-append (spelled_item (Taken e)) after)
     shorter rest (Kept path) after parts = omega (arith, ap (λ (w : List ℕ). length w) parts, length-append (spelled_item (Kept path)) after)
 
--- ---- the letters
-
-abbrev pub IsLettersFault : Format → List ℕ → ℕ → Type 0
-IsLettersFault f bytes left = (left ≤ length bytes) × IsBad f bytes (length bytes - left)
-
-letters_fail : (f : Format) (bytes : List ℕ) → starts_with nat_eq bytes (letters_of f) ≡ false → MatchResult (cond (starts_with nat_eq (letters_of f) bytes) (Err 0) (Err (length bytes))) (HasRead f bytes []) (IsLettersFault f bytes)
-letters_fail f bytes wrong =
-    choose_law (starts_with nat_eq (letters_of f) bytes) (Err 0) (Err (length bytes)) (HasRead f bytes []) (IsLettersFault f bytes)
-    (λ begins. (omega arith, in_letters wrong (omega arith ∙ sym (cond-true (starts_with nat_eq (letters_of f) bytes) (length bytes) 0 begins))))
-    (λ differs. (omega arith, in_letters wrong (omega arith ∙ sym (cond-false (starts_with nat_eq (letters_of f) bytes) (length bytes) 0 differs))))
-
-letters_pass : (f : Format) (bytes : List ℕ) → IsBytes bytes → starts_with nat_eq bytes (letters_of f) ≡ true → HasRead f bytes [] (drop (length (letters_of f)) bytes)
-letters_pass f bytes fits begins = record {
-  parts = (starts_is Decides-eqb bytes (letters_of f) (starts_with nat_eq bytes (letters_of f)) refl).0 begins;
-  items_are = record { rising = refl; each = tt };
-  rest_fits = IsBytes-drop (length (letters_of f)) bytes fits;
-}
-
-pub letters_law : (f : Format) (bytes : List ℕ) → IsBytes bytes → MatchResult (letters_at (letters_of f) bytes) (HasRead f bytes []) (IsLettersFault f bytes)
-letters_law f bytes fits =
-    choose_law (starts_with nat_eq bytes (letters_of f)) (Ok (drop (length (letters_of f)) bytes)) (cond (starts_with nat_eq (letters_of f) bytes) (Err 0) (Err (length bytes))) (HasRead f bytes []) (IsLettersFault f bytes)
-    (λ begins. letters_pass f bytes fits begins)
-    (λ wrong. letters_fail f bytes wrong)
-
 -- ---- a field that breaks its rule
 
 path_left : (last bytes : List ℕ) (left : ℕ) → PathBreaks last bytes left → left ≤ length bytes
@@ -197,7 +170,11 @@ item_left f last bytes left (behind_end byte more parts is) = omega (arith, ap (
 item_left f last bytes left (in_path tag more parts names breaks) = omega (arith, ap (λ (w : List ℕ). length w) parts, path_left last more left breaks)
 item_left f last bytes left (in_file path more parts ok ends none) = omega arith
 
-pub has_fault : (f : Format) (bytes : List ℕ) (items : List Item) (rest : List ℕ) (left : ℕ) → HasRead f bytes items rest → item_at f (last_path items) rest ≡ Err left → IsLettersFault f bytes left
+-- a fault, by the bytes that are left
+abbrev pub IsFaultAt : Format → List ℕ → ℕ → Type 0
+IsFaultAt f bytes left = (left ≤ length bytes) × IsBad f bytes (length bytes - left)
+
+pub has_fault : (f : Format) (bytes : List ℕ) (items : List Item) (rest : List ℕ) (left : ℕ) → HasRead f bytes items rest → item_at f (last_path items) rest ≡ Err left → IsFaultAt f bytes left
 has_fault f bytes items rest left has read =
     let breaks = MatchResult-at_err (TakesItem f (last_path items) rest) (Breaks f (last_path items) rest) left read (item_law f (last_path items) rest has.rest_fits) in
     let few : left ≤ length rest = item_left f (last_path items) rest left breaks in

@@ -1,23 +1,18 @@
 -- What an image took of a path, and what a chain did.
-use Rattle.std.proofs.Common.{◌≡◌, ◌≢◌, ℕ, ◌+◌, ◌-◌, ◌<◌, ◌≤◌, zero, suc, Bool, true, false, cond, List, [], ◌∷◌, ◌++◌, length, get_or, take, drop, Option, Some, None, Ordering, refl, sym, ap, subst, ◌∙◌, append_assoc, arith, inl, inr}
-use Rattle.std.specs.Prelude.{◌⊎◌, map, filter, nat_le, Contains}
-use Rattle.std.specs.List.{AllByRecursion, filter_map}
+use Rattle.std.proofs.Common.{◌≡◌, ℕ, true, false, cond, List, [], ◌∷◌, ◌++◌, Option, Some, None, refl, sym, ap, subst, ◌∙◌}
+use Rattle.std.specs.Prelude.{map}
 use Rattle.std.specs.Str.{bytes_eq}
-use Rattle.std.specs.Ordering.{nat_cmp, is_lt}
-use Rattle.std.specs.declared.cmp.Ordering.TheVariants.{Less, Equal, Greater}
-use Rattle.std.specs.Cmp.Lexicographic.{slice_cmp}
-use Rattle.std.proofs.lemmas.Bool.{and_parts, and_from, cond_both, cond-true, cond-false, false_from_ne_true, leb-false, cases_Bool, both_ways}
+use Rattle.std.specs.Ordering.{is_lt}
+use Rattle.std.proofs.lemmas.Bool.{and_parts, and_from, cond-true, cond-false, false_from_ne_true, both_ways}
 use Rattle.std.proofs.lemmas.Cmp.{nat_list_cmp_total, tied_itself}
-use Rattle.std.proofs.lemmas.List.{map-append, take_more}
 use Rattle.std.proofs.lemmas.Slice.Eq.{bytes_eq-Decides}
 use Rattle.image_kinds.specs.Paths.{is_path, is_before, follows, rise_behind}
 use Rattle.image_kinds.specs.declared.entry.Entry.{Entry}
 use Rattle.image_kinds.specs.declared.entry.Item.{Item}
 use Rattle.image_kinds.specs.declared.entry.Item.TheVariants.{Taken, Kept}
-use Rattle.image_kinds.specs.declared.format.Format.TheVariants as format
-use Rattle.image_kinds.specs.Streams.{path_of, taken_of, IsEntry, IsItem, IsStream, IsImage}
-use Rattle.image_kinds.specs.Trees.{taken_in, or_else, last_taken, last_image, tree}
-use Rattle.image_kinds.proofs.Orders.{less_is, before_before, rise_sooner}
+use Rattle.image_kinds.specs.Streams.{path_of, taken_of}
+use Rattle.image_kinds.specs.Trees.{taken_in}
+use Rattle.image_kinds.proofs.Orders.{before_before, rise_sooner}
 
 abbrev pub paths : List Item → List (List ℕ)
 paths items = map path_of items

@@ -1,5 +1,5 @@
 -- Writing one part behind another.
-use Rattle.std.proofs.Common.{◌≡◌, ℕ, ◌+◌, ◌-◌, ◌<◌, ◌≤◌, zero, suc, true, List, [], ◌∷◌, ◌++◌, length, get_or, take, refl, sym, ap, ◌∙◌, append_assoc, arith}
+use Rattle.std.proofs.Common.{◌≡◌, ℕ, ◌+◌, ◌<◌, ◌≤◌, zero, suc, true, List, [], ◌∷◌, ◌++◌, length, get_or, take, refl, sym, ap, ◌∙◌, append_assoc, arith}
 use Rattle.std.specs.Prelude.{map}
 use Rattle.std.specs.List.{flat_map}
 use Rattle.std.proofs.lemmas.List.{flat_map_more, take_more, take_all}
@@ -7,7 +7,7 @@ use Rattle.std.proofs.lemmas.Bool.{and_parts}
 use Rattle.image_kinds.specs.Paths.{is_path_length, follows, rise_behind}
 use Rattle.image_kinds.specs.declared.entry.Entry.{Entry}
 use Rattle.image_kinds.specs.declared.entry.Item.{Item}
-use Rattle.image_kinds.specs.declared.entry.Item.TheVariants.{Taken, Kept}
+use Rattle.image_kinds.specs.declared.entry.Item.TheVariants.{Taken}
 use Rattle.image_kinds.specs.Streams.{path_of, spelled_entry, spelled_item}
 use Rattle.image_kinds.proofs.Again.{length_of_path}
 

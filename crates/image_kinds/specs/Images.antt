@@ -1,5 +1,5 @@
 -- The image that is made of a client's stream.
-use Rattle.std.specs.Prelude.{◌≡◌, ℕ, Bool, true, false, ◌&&◌, ◌||◌, nat_le, nat_eq, if◌then◌else◌, List, [], ◌∷◌, length, drop, map, filter, codes, Option, Some, None}
+use Rattle.std.specs.Prelude.{ℕ, Bool, ◌&&◌, ◌||◌, nat_le, nat_eq, if◌then◌else◌, List, length, drop, map, filter, codes, Option, Some, None}
 use Rattle.std.specs.List.{list_any, starts_with}
 use Rattle.std.specs.Str.{bytes_eq}
 use Rattle.image_kinds.specs.Paths.{begins_with_slash}

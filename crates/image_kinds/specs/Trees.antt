@@ -1,5 +1,5 @@
 -- The tree of a chain of images.
-use Rattle.std.specs.Prelude.{◌≡◌, ℕ, ◌<◌, if◌then◌else◌, List, [], ◌∷◌, length, Option, Some, None, Contains}
+use Rattle.std.specs.Prelude.{ℕ, ◌<◌, if◌then◌else◌, List, [], ◌∷◌, Option, Some, None, Contains}
 use Rattle.std.specs.List.{filter_map, AllByRecursion}
 use Rattle.std.specs.Str.{bytes_eq}
 use Rattle.image_kinds.specs.declared.entry.Entry.{Entry}

@@ -1,9 +1,5 @@
-use Rattle.std.proofs.Common.{ap, ◌∙◌, List}
+use Rattle.std.proofs.Common.{◌∙◌}
 use Rattle.std.proofs.lemmas.List.{take_all}
-use Rattle.image_kinds.specs.declared.entry.Entry.{Entry}
-use Rattle.image_kinds.specs.declared.entry.Item.{Item}
-use Rattle.image_kinds.specs.Streams.{IsImage}
-use Rattle.image_kinds.specs.Images.{made}
 use Rattle.image_kinds.proofs.Orders.{made_is}
 use Rattle.image_kinds.proofs.make.make_image.Goals as goal
 

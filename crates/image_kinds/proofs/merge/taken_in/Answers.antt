@@ -1,4 +1,4 @@
-use Rattle.std.proofs.Common.{arith, ◌/◌, ◌-◌, length, take, drop, ◌≡◌, ◌∙◌}
+use Rattle.std.proofs.Common.{arith, ◌/◌, ◌-◌, length, take, drop, ◌∙◌}
 use Rattle.std.specs.declared.cmp.Ordering.TheVariants.{Less, Equal, Greater}
 use Rattle.image_kinds.specs.Streams.{path_of}
 use Rattle.image_kinds.proofs.Halving.{halved, compared, narrows_right, narrows_left, narrows_here}
