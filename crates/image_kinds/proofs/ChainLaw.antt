@@ -1,0 +1,103 @@
+-- The law of chains: a chain of a client's backups gives the selected part of its last stream.
+use Rattle.std.proofs.Common.{◌≡◌, ℕ, ◌+◌, suc, true, List, [], ◌∷◌, ◌++◌, take, drop, Option, Some, None, refl, sym, ap, subst, ◌∙◌, arith, inl, inr}
+use Rattle.std.specs.Prelude.{◌⊎◌, map, nat_le, Contains, Result, Ok, Err, IfOk}
+use Rattle.std.specs.List.{AllByRecursion, filter_map, cons_option}
+use Rattle.std.proofs.lemmas.Bool.{cond-true, cond-false, cases_Bool, leb-false}
+use Rattle.std.proofs.lemmas.List.{map-append, take-append-drop, drop_more}
+use Rattle.image_kinds.specs.Paths.{rise_behind}
+use Rattle.image_kinds.specs.declared.entry.Entry.{Entry}
+use Rattle.image_kinds.specs.declared.entry.Item.{Item}
+use Rattle.image_kinds.specs.declared.entry.Item.TheVariants.{Taken, Kept}
+use Rattle.image_kinds.specs.Streams.{path_of, taken_of, IsStream}
+use Rattle.image_kinds.specs.Images.{selected, item_made, made}
+use Rattle.image_kinds.specs.Trees.{taken_in, or_else, last_taken, last_image, tree, Backup, images_behind, chain_of, last_stream, KeepsOld, AllKeepOld, AreBackups}
+use Rattle.image_kinds.proofs.Orders.{made_is, path_made}
+use Rattle.image_kinds.proofs.Trees.{paths, taken_here}
+
+-- an element stands between those before it and those behind it
+stands : (xs : List Entry) (e : Entry) (at : Contains xs e) → xs ≡ take at.0 xs ++ e ∷ drop (at.0 + 1) xs
+stands xs e at = sym (take-append-drop at.0 xs) ∙ ap (λ (w : List Entry). take at.0 xs ++ w) (drop_more xs at.0 e at.1 ∙ ap (λ (y : Entry). y ∷ drop (at.0 + 1) xs) at.2)
+
+-- what an image took of a selected entry's path
+made_takes : (selections : List (List ℕ)) (reference : Option ℕ) (stream : List Entry) (e : Entry) → IsStream stream → Contains (selected selections stream) e → taken_in e.path (made selections reference stream) ≡ taken_of (item_made reference e)
+made_takes selections reference stream e is at =
+    let part = selected selections stream in
+    let front = map (item_made reference) (take at.0 part) in
+    let back = map (item_made reference) (drop (at.0 + 1) part) in
+    let x = item_made reference e in
+    let parts : made selections reference stream ≡ front ++ x ∷ back = ap (map (item_made reference)) (stands part e at) ∙ map-append (item_made reference) (take at.0 part) (e ∷ drop (at.0 + 1) part) in
+    let rising : rise_behind [] (paths (front ++ x ∷ back)) ≡ true = subst (λ (w : List Item). rise_behind [] (paths w) ≡ true) parts (made_is selections reference stream is).rising in
+    let here : taken_in (path_of x) (front ++ x ∷ back) ≡ taken_of x = taken_here [] front x back rising in
+    subst (λ (p : List ℕ). taken_in p (made selections reference stream) ≡ taken_of x) (path_made reference e) (ap (taken_in (path_of x)) parts ∙ here)
+
+-- what some images, made behind a stream, have of an entry: the entry itself, or nothing where it stands in that stream too
+abbrev Found : List (List ℕ) → List Entry → List (List Item) → Entry → Type 0
+Found selections before images e = (last_taken e.path images ≡ Some e) ⊎ ((last_taken e.path images ≡ None) × Contains (selected selections before) e)
+
+-- an image behind another stream took the entry, or it stands in that stream
+took_or_old : (selections : List (List ℕ)) (before b : Backup) (e : Entry) → IsStream b.stream → KeepsOld selections before b → Contains (selected selections b.stream) e
+    → (taken_in e.path (made selections (Some before.moment) b.stream) ≡ Some e) ⊎ ((taken_in e.path (made selections (Some before.moment) b.stream) ≡ None) × Contains (selected selections before.stream) e)
+took_or_old selections before b e is old at =
+    let takes = made_takes selections (Some before.moment) b.stream e is at in
+    elim (cases_Bool (nat_le before.moment e.time)) [
+      | inl later ↦ inl (takes ∙ ap taken_of (cond-true (nat_le before.moment e.time) (Taken e) (Kept e.path) later))
+      | inr sooner ↦ inr (takes ∙ ap taken_of (cond-false (nat_le before.moment e.time) (Taken e) (Kept e.path) sooner), old e at (leb-false before.moment e.time sooner))
+    ]
+
+one_image : (path : List ℕ) (image : List Item) → last_taken path (image ∷ []) ≡ taken_in path image
+one_image path image = refl
+
+behind_finds : (selections : List (List ℕ)) (before b : Backup) (later : List Backup) → AllByRecursion (λ x. IsStream x.stream) (b ∷ later) → AllKeepOld selections before (b ∷ later) → (e : Entry) → Contains (selected selections (last_stream (b ∷ later))) e
+    → Found selections before.stream (images_behind selections (Some before.moment) (b ∷ later)) e
+behind_finds selections before b [] streams old e at = took_or_old selections before b e streams.0 old.0 at
+behind_finds selections before b (next ∷ later) streams old e at =
+    let image = made selections (Some before.moment) b.stream in
+    let rest = images_behind selections (Some b.moment) (next ∷ later) in
+    elim (behind_finds selections b next later streams.1 old.1 e at) [
+      | inl found ↦ inl (ap (λ (o : Option Entry). or_else o (taken_in e.path image)) found)
+      | inr missing ↦
+          let none : last_taken e.path (image ∷ rest) ≡ taken_in e.path image = ap (λ (o : Option Entry). or_else o (taken_in e.path image)) missing.0 in
+          elim (took_or_old selections before b e streams.0 old.0 missing.1) [
+            | inl took ↦ inl (none ∙ took)
+            | inr kept ↦ inr (none ∙ kept.0, kept.1)
+          ]
+    ]
+
+chain_finds : (selections : List (List ℕ)) (b : Backup) (later : List Backup) → AreBackups selections (b ∷ later) → (e : Entry) → Contains (selected selections (last_stream (b ∷ later))) e → last_taken e.path (chain_of selections (b ∷ later)) ≡ Some e
+chain_finds selections b [] are e at = made_takes selections None b.stream e are.streams.0 at
+chain_finds selections b (next ∷ later) are e at =
+    let image = made selections None b.stream in
+    elim (behind_finds selections b next later are.streams.1 are.dated e at) [
+      | inl found ↦ ap (λ (o : Option Entry). or_else o (taken_in e.path image)) found
+      | inr missing ↦ ap (λ (o : Option Entry). or_else o (taken_in e.path image)) missing.0 ∙ made_takes selections None b.stream e are.streams.0 missing.1
+    ]
+
+-- the last image is made of the last stream, with some reference
+last_made : (selections : List (List ℕ)) (reference : Option ℕ) (b : Backup) (later : List Backup) → (r : Option ℕ) × (last_image (images_behind selections reference (b ∷ later)) ≡ made selections r (last_stream (b ∷ later)))
+last_made selections reference b [] = (reference, refl)
+last_made selections reference b (next ∷ later) = last_made selections (Some b.moment) next later
+
+contains_here : (x : Entry) (xs : List Entry) → Contains (x ∷ xs) x
+contains_here x xs = (0, omega arith, refl)
+
+contains_later : (x : Entry) (xs : List Entry) (e : Entry) → Contains xs e → Contains (x ∷ xs) e
+contains_later x xs e at = (suc at.0, omega (arith, at.1), at.2)
+
+-- where each entry is found, the entries are
+all_found : (reference : Option ℕ) (images : List (List Item)) (entries : List Entry) → ((e : Entry) → Contains entries e → last_taken e.path images ≡ Some e) → filter_map (λ i. last_taken (path_of i) images) (map (item_made reference) entries) ≡ entries
+all_found reference images [] found = refl
+all_found reference images (x ∷ entries) found =
+    let rest = filter_map (λ i. last_taken (path_of i) images) (map (item_made reference) entries) in
+    let here : last_taken (path_of (item_made reference x)) images ≡ Some x = ap (λ (p : List ℕ). last_taken p images) (path_made reference x) ∙ found x (contains_here x entries) in
+    ap (λ (o : Option Entry). cons_option o rest) here ∙ ap (λ (es : List Entry). x ∷ es) (all_found reference images entries (λ e at. found e (contains_later x entries e at)))
+
+pub chain_gives : (selections : List (List ℕ)) (backups : List Backup) → AreBackups selections backups → tree (chain_of selections backups) ≡ selected selections (last_stream backups)
+chain_gives selections [] are = refl
+chain_gives selections (b ∷ later) are =
+    let images = chain_of selections (b ∷ later) in
+    let last = last_made selections None b later in
+    ap (λ (is : List Item). filter_map (λ i. last_taken (path_of i) images) is) last.1 ∙ all_found last.0 images (selected selections (last_stream (b ∷ later))) (λ e at. chain_finds selections b later are e at)
+
+pub law_of_chains : {E : Type 0} (images : List (List Item)) (result : Result (List Entry) E) → IfOk result (λ t. t ≡ tree images) → (selections : List (List ℕ)) (backups : List Backup) → images ≡ chain_of selections backups → AreBackups selections backups → IfOk result (λ t. t ≡ selected selections (last_stream backups))
+law_of_chains images (Ok t) is selections backups chain are = is ∙ ap tree chain ∙ chain_gives selections backups are
+law_of_chains images (Err e) is selections backups chain are = tt

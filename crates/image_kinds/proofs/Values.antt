@@ -1,0 +1,47 @@
+-- The value that bytes spell.
+use Rattle.std.proofs.Common.{subst, ◌≡◌, ℕ, List, [], ◌∷◌, Result, Ok, Err, refl, sym, ap, ◌∙◌}
+use Rattle.std.specs.Prelude.{map, IfOk, IfErr}
+use Rattle.std.specs.List.{filter_map, AllByRecursion}
+use Rattle.image_kinds.specs.declared.entry.Entry.{Entry}
+use Rattle.image_kinds.specs.declared.entry.Item.{Item}
+use Rattle.image_kinds.specs.declared.entry.Item.TheVariants.{Taken, Kept}
+use Rattle.image_kinds.specs.declared.format.Format.TheVariants as format
+use Rattle.image_kinds.specs.declared.decode.StreamFault.{StreamFault}
+use Rattle.image_kinds.specs.declared.decode.StreamFault.TheVariants.{Bad, NoMemory}
+use Rattle.image_kinds.specs.Streams.{taken_of, spelled, spelled_stream, spelled_image, IsItem, AreItems, IsStream, IsImage}
+use Rattle.image_kinds.specs.Decoding.{IsStreamFault, IsReadAs}
+use Rattle.image_kinds.proofs.Fronts.{one_value, spelled_is_good}
+
+same_taken : (x y : Entry) → Taken x ≡ Taken y → x ≡ y
+same_taken x y e = cc
+
+pub same_entries : (xs ys : List Entry) → map Taken xs ≡ map Taken ys → xs ≡ ys
+same_entries [] [] e = refl
+same_entries [] (y ∷ ys) e = absurd cc
+same_entries (x ∷ xs) [] e = absurd cc
+same_entries (x ∷ xs) (y ∷ ys) e =
+    let heads : Taken x ≡ Taken y = cc in
+    let tails : map Taken xs ≡ map Taken ys = cc in
+    ap (λ (z : Entry). z ∷ xs) (same_taken x y heads) ∙ ap (λ (zs : List Entry). y ∷ zs) (same_entries xs ys tails)
+
+-- each item of a stream is taken
+pub each_taken : (items : List Item) → AllByRecursion (IsItem format.Stream) items → map Taken (filter_map taken_of items) ≡ items
+each_taken [] each = refl
+each_taken (Taken e ∷ items) each = ap (λ (is : List Item). Taken e ∷ is) (each_taken items each.1)
+each_taken (Kept path ∷ items) each = absurd cc
+
+pub stream_of : (items : List Item) → AreItems format.Stream items → IsStream (filter_map taken_of items)
+stream_of items are = subst (AreItems format.Stream) (sym (each_taken items are.each)) are
+
+pub spelled_of : (items : List Item) → AreItems format.Stream items → spelled_stream (filter_map taken_of items) ≡ spelled format.Stream items
+spelled_of items are = ap (spelled format.Stream) (each_taken items are.each)
+
+pub only_stream : (bytes : List ℕ) (r : Result (List Entry) StreamFault) → IfOk r (λ s. IsStream s × (bytes ≡ spelled_stream s)) → IfErr r (IsStreamFault format.Stream bytes) → (s : List Entry) → IsStream s → bytes ≡ spelled_stream s → IsReadAs r s
+only_stream bytes (Ok read) found fault s is spells = same_entries read s (one_value format.Stream (map Taken read) (map Taken s) found.0 is (sym found.1 ∙ spells))
+only_stream bytes (Err (Bad offset)) found fault s is spells = spelled_is_good format.Stream bytes offset (map Taken s) fault is spells
+only_stream bytes (Err NoMemory) found fault s is spells = tt
+
+pub only_image : (bytes : List ℕ) (r : Result (List Item) StreamFault) → IfOk r (λ i. IsImage i × (bytes ≡ spelled_image i)) → IfErr r (IsStreamFault format.Image bytes) → (i : List Item) → IsImage i → bytes ≡ spelled_image i → IsReadAs r i
+only_image bytes (Ok read) found fault i is spells = one_value format.Image read i found.0 is (sym found.1 ∙ spells)
+only_image bytes (Err (Bad offset)) found fault i is spells = spelled_is_good format.Image bytes offset i fault is spells
+only_image bytes (Err NoMemory) found fault i is spells = tt

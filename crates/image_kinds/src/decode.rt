@@ -1,0 +1,151 @@
+ghost use Rattle.std.specs.Prelude.{◌≡◌, ◌≤◌, ◌-◌, ℕ, List, length, map, IfOk, IfErr, Ok, Err};
+ghost use Rattle.std.specs.List.{filter_map};
+ghost use Rattle.image_kinds.specs.Streams.{taken_of, AreItems, IsStream, IsImage, spelled, spelled_stream, spelled_image, last_path, path_of, IsBad};
+ghost use Rattle.image_kinds.specs.Decoding.{IsFault, IsStreamFault, IsReadAs};
+ghost use Rattle.image_kinds.specs.declared.entry.Entry.{Entry};
+ghost use Rattle.image_kinds.specs.declared.entry.Item.{Item};
+ghost use Rattle.image_kinds.specs.declared.format.Format.{Format};
+ghost use Rattle.image_kinds.specs.declared.format.Format.TheVariants as format;
+
+use crate::cursor::{Cursor, FieldFault};
+use crate::entry::{Entry, Item};
+use crate::format::Format;
+use crate::stream::{ImageBody, Stream};
+use site_types::NoMemory;
+use std::alloc::Global;
+
+/// Why bytes weren't read as a stream or an image.
+#[derive(Clone, Copy, Debug)]
+pub enum StreamFault {
+    /// The first field that breaks its rule begins at this offset, in bytes. Where the input ends within a field it is the input's length.
+    Bad { offset: u64 },
+    NoMemory,
+}
+
+impl From<NoMemory> for StreamFault {
+    ghost use Rattle.std.specs.Prelude.{◌≡◌};
+    ghost use Rattle.image_kinds.specs.declared.decode.StreamFault.TheVariants as fault;
+
+    ghost from_gives = { λ _ e. e ≡ fault.NoMemory };
+
+    fn from(_: NoMemory) -> StreamFault {
+        StreamFault::NoMemory
+    }
+}
+
+impl Item {
+    pub fn path(&self) -> &[u8]
+        ensures { result.now ≡ path_of self.now }
+    {
+        match self {
+            Item::Taken(entry) => entry.path.bytes(),
+            Item::Kept(path) => path.bytes(),
+        }
+    }
+}
+
+// The path of the last item, and no bytes where there is none.
+fn last_path(items: &[Item]) -> &[u8]
+    ensures { result.now ≡ last_path items.now }
+{
+    match items.last() {
+        Some(item) => item.path(),
+        None => &[],
+    }
+}
+
+// The items that these bytes spell.
+fn read_items(alloc: Global, format: Format, bytes: &[u8]) -> Result<Vec<Item>, FieldFault>
+    ensures found { IfOk result (λ v. AreItems format v.items × (bytes.now ≡ spelled format v.items)) }
+    ensures fault { IfErr result (IsFault format bytes.now) }
+{
+    let mut cursor = Cursor::new(bytes);
+    cursor.letters(format)?;
+    let mut items = Vec::new(alloc);
+    while let Some(item) = cursor.item(alloc, format, last_path(&items))? {
+        items.push(item)?;
+    }
+    Ok(items)
+}
+
+fn decode(alloc: Global, format: Format, bytes: &[u8]) -> Result<Vec<Item>, StreamFault>
+    ensures found { IfOk result (λ v. AreItems format v.items × (bytes.now ≡ spelled format v.items)) }
+    ensures fault { IfErr result (IsStreamFault format bytes.now) }
+{
+    match read_items(alloc, format, bytes) {
+        Ok(items) => Ok(items),
+        Err(FieldFault::Broken(left)) => Err(StreamFault::Bad {
+            offset: (bytes.len() - left) as u64,
+        }),
+        Err(FieldFault::NoMemory) => Err(StreamFault::NoMemory),
+    }
+}
+
+fn entry_in(item: Item) -> Option<Entry>
+    ensures { result ≡ taken_of item }
+{
+    match item {
+        Item::Taken(entry) => Some(entry),
+        Item::Kept(_) => None,
+    }
+}
+
+// The entries that these items took, which are moved.
+fn entries_in(alloc: Global, items: Vec<Item>) -> Result<Vec<Entry>, NoMemory>
+    ensures { IfOk result (λ v. v.items ≡ filter_map taken_of items.items) }
+{
+    items.into_iter().filter_map(entry_in).collect(alloc)
+}
+
+fn read_stream(alloc: Global, bytes: &[u8]) -> Result<Stream, StreamFault>
+    ensures found { IfOk result (λ s. IsStream s × (bytes.now ≡ spelled_stream s)) }
+    ensures fault { IfErr result (IsStreamFault format.Stream bytes.now) }
+{
+    let items = decode(alloc, Format::Stream, bytes)?;
+    Ok(Stream::new(entries_in(alloc, items)?))
+}
+
+fn read_image(alloc: Global, bytes: &[u8]) -> Result<ImageBody, StreamFault>
+    ensures found { IfOk result (λ i. IsImage i × (bytes.now ≡ spelled_image i)) }
+    ensures fault { IfErr result (IsStreamFault format.Image bytes.now) }
+{
+    Ok(ImageBody::new(decode(alloc, Format::Image, bytes)?))
+}
+
+/// The stream that these bytes spell.
+#[tactic(auto, using(crate::proofs::Values::only_stream))]
+pub fn decode_stream(alloc: Global, bytes: &[u8]) -> Result<Stream, StreamFault>
+    // What is read is spelled so, each byte of it.
+    ensures found { IfOk result (λ s. IsStream s × (bytes.now ≡ spelled_stream s)) }
+
+    // What is spelled so is read, unless memory runs out.
+    ensures only { (s : List Entry) → IsStream s → bytes.now ≡ spelled_stream s → IsReadAs result s }
+
+    // The offset of a fault is that of the first field that breaks its rule.
+    ensures fault { IfErr result (IsStreamFault format.Stream bytes.now) }
+{
+    read_stream(alloc, bytes)
+}
+
+/// The image that these bytes spell.
+#[tactic(auto, using(crate::proofs::Values::only_image))]
+pub fn decode_image(alloc: Global, bytes: &[u8]) -> Result<ImageBody, StreamFault>
+    // What is read is spelled so, each byte of it.
+    ensures found { IfOk result (λ i. IsImage i × (bytes.now ≡ spelled_image i)) }
+
+    // What is spelled so is read, unless memory runs out.
+    ensures only { (i : List Item) → IsImage i → bytes.now ≡ spelled_image i → IsReadAs result i }
+
+    // The offset of a fault is that of the first field that breaks its rule.
+    ensures fault { IfErr result (IsStreamFault format.Image bytes.now) }
+{
+    read_image(alloc, bytes)
+}
+
+/// What bytes spell is one value, and where they break is one offset; none that spell a value break.
+pub fn one_reading()
+    ensures stream { (s t : List Entry) → IsStream s → IsStream t → spelled_stream s ≡ spelled_stream t → s ≡ t }
+    ensures image { (i j : List Item) → IsImage i → IsImage j → spelled_image i ≡ spelled_image j → i ≡ j }
+    ensures offset { (f : Format) (bytes : List ℕ) (m n : ℕ) → IsBad f bytes m → IsBad f bytes n → m ≡ n }
+    ensures apart { (f : Format) (items : List Item) (n : ℕ) → AreItems f items → IsBad f (spelled f items) n → ⊥ }
+{}
