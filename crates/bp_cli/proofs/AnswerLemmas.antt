@@ -2,7 +2,7 @@
 use Rattle.std.proofs.Common.{◌≡◌, ◌≢◌, ℕ, refl, arith}
 use Rattle.site_types.specs.Answers.{number_of}
 use Rattle.site_types.specs.declared.answer.Answer.{Answer}
-use Rattle.site_types.specs.declared.answer.Answer.TheVariants.{Done, OutOfMemory, BadRequest, Exists, Unknown, InUse, BadLifecycle, Inactive, WindowClosed, AboveHigh, UnitFull, Needed, Short, NoJob, Unaligned, TooMany, ChainBroken, Damaged, DiskFault, ReadFault, SendFault, ClockFault, NotAVault, BadStream}
+use Rattle.site_types.specs.declared.answer.Answer.TheVariants.{BadRequest, DiskFault, ReadFault, SendFault, ClockFault}
 
 pub is_disk_fault : (a : Answer) → number_of a ≡ 18 → a ≡ DiskFault
 is_disk_fault DiskFault is = refl

@@ -1,15 +1,15 @@
 -- A request on an open vault.
-use Rattle.std.proofs.Common.{◌≡◌, ◌≢◌, ◌⊎◌, inl, inr, ⊎_elim, ℕ, List, refl, sym, ◌∙◌, ap, subst}
-use Rattle.std.specs.Prelude.{Some, Option}
+use Rattle.std.proofs.Common.{◌≡◌, ◌≢◌, ◌⊎◌, inl, inr, ⊎_elim, ℕ, ◌≤◌, List, length, refl, sym, ◌∙◌, ap, subst}
+use Rattle.std.specs.Prelude.{Some}
 use Rattle.site_types.specs.declared.request.Request.{Request}
 use Rattle.site_types.specs.declared.answer.Answer.{Answer}
-use Rattle.site_types.specs.declared.answer.Answer.TheVariants.{Done, OutOfMemory, BadRequest, Exists, Unknown, InUse, BadLifecycle, Inactive, WindowClosed, AboveHigh, UnitFull, Needed, Short, NoJob, Unaligned, TooMany, ChainBroken, Damaged, DiskFault, ReadFault, SendFault, ClockFault, NotAVault, BadStream}
+use Rattle.site_types.specs.declared.answer.Answer.TheVariants.{OutOfMemory, BadRequest, DiskFault, SendFault, NotAVault}
 use Rattle.vault_disk.specs.Disk.{Disk, Image}
 use Rattle.vault_disk.specs.Input.{Input}
 use Rattle.vault_disk.specs.Ticks.{Ticks}
 use Rattle.vault_disk.proofs.Moments.{started, weaker}
+use Rattle.desk_model.specs.Limits.{payload_limit}
 use Rattle.desk_model.specs.State.{State, durable}
-use Rattle.desk_model.specs.Step.{step}
 use Rattle.desk_model.specs.Replay.{Mark, plain, memory, fault, Entry, answer_of}
 use Rattle.site_desk.specs.Desk.{Answered, Moved, reached}
 use Rattle.site_desk.specs.Stands.{stands, Standing, StandsFor, Between}
@@ -47,7 +47,7 @@ pub obeys_step : (s new : State) (asked : Spoken) (d0 d1 : Disk) (input input' :
     → Moved s asked.request payload g.moment a new → Between s (reached s asked.request payload g.moment a) d0 d1 → Obeys s asked d0 d1 input input' ticks ticks' a
 obeys_step s new asked d0 d1 input input' ticks ticks' g payload a is gathers answered standing moved between = record {
   outcome = carried (entry_of s asked.request payload g.moment a);
-  obeyed = (refl, subst (λ (x : List ℕ). IsPayload x input input') (sym is) gathers.payload, gathers.moment);
+  obeyed = (refl, subst (λ (x : List ℕ). IsPayload x input input') (sym is) gathers.payload, subst (λ (x : List ℕ). length x ≤ payload_limit) (sym is) gathers.short, gathers.moment);
   is = marked s asked.request payload g.moment a answered;
   now = ended s asked.request payload g.moment a new d0 d1 standing moved between;
   during = weaker d0 d1 (λ c b. StandsFor s (reached s asked.request payload g.moment a) c × (b ≡ d0.sent)) (λ c b. ((stands c ≡ Some (durable s)) ⊎ Ends s (carried (entry_of s asked.request payload g.moment a)) c) × (b ≡ d0.sent)) (λ c b left. (before_or_after s asked.request payload g.moment a c left.0, left.1)) between.during;

@@ -1,9 +1,9 @@
 -- A request is answered on a vault.
 use Rattle.std.proofs.Common.{◌≡◌, ◌⊎◌, inl, inr, ⊎_elim, ℕ, List, refl, sym, ◌∙◌, ap, subst}
-use Rattle.std.specs.Prelude.{Some, Option, Result, Ok, Err}
+use Rattle.std.specs.Prelude.{Some, Result, Ok, Err}
 use Rattle.std.specs.Result.{result_ok}
 use Rattle.site_types.specs.declared.answer.Answer.{Answer}
-use Rattle.site_types.specs.declared.answer.Answer.TheVariants.{Done, OutOfMemory, BadRequest, Exists, Unknown, InUse, BadLifecycle, Inactive, WindowClosed, AboveHigh, UnitFull, Needed, Short, NoJob, Unaligned, TooMany, ChainBroken, Damaged, DiskFault, ReadFault, SendFault, ClockFault, NotAVault, BadStream}
+use Rattle.site_types.specs.declared.answer.Answer.TheVariants.{OutOfMemory, TooMany, ReadFault, ClockFault}
 use Rattle.site_types.specs.declared.request.WordFault.{WordFault}
 use Rattle.site_types.specs.declared.request.WordFault.TheVariants as word
 use Rattle.vault_disk.specs.Disk.{Disk, Image, During}
@@ -28,7 +28,7 @@ asked_of words asked seen input input' ticks ticks' (refused ReadFault) words_as
 asked_of words asked seen input input' ticks ticks' (refused ClockFault) words_ask obeyed = tt
 asked_of words asked seen input input' ticks ticks' (refused (TooMany kind count limit)) words_ask obeyed = obeyed
 asked_of words asked seen input input' ticks ticks' (refused _) words_ask obeyed = absurd obeyed
-asked_of words asked seen input input' ticks ticks' (carried e) words_ask obeyed = record { asked = asked; words_ask = words_ask; request = obeyed.0; payload = obeyed.1; moment = obeyed.2 }
+asked_of words asked seen input input' ticks ticks' (carried e) words_ask obeyed = record { asked = asked; words_ask = words_ask; request = obeyed.0; payload = obeyed.1; short = obeyed.2; moment = obeyed.3 }
 
 pub asked_words : (words : List (List ℕ)) (seen : Image) (input input' : Input) (ticks ticks' : Ticks) (fault : WordFault) → IsSpoken (Err fault) (spoken words) → IsAsked words seen input input' ticks ticks' (refused (word_refusal_of fault))
 asked_words words seen input input' ticks ticks' (word.Bad index) is = is

@@ -1,6 +1,6 @@
 -- The reply to what was answered.
-use Rattle.std.proofs.Common.{◌≡◌, ◌≢◌, ◌⊎◌, inl, inr, ⊎_elim, ℕ, List, ◌++◌, refl, sym, ◌∙◌, ap, subst, arith, append_assoc}
-use Rattle.std.specs.Prelude.{Some, Option, Result, Ok, Err, MatchResult}
+use Rattle.std.proofs.Common.{◌≡◌, ◌≢◌, ◌⊎◌, inl, inr, ⊎_elim, ℕ, List, ◌++◌, sym, ◌∙◌, ap, subst, arith, append_assoc}
+use Rattle.std.specs.Prelude.{Some, Result, Ok, Err, MatchResult}
 use Rattle.std.specs.Borrow.{GName}
 use Rattle.site_types.specs.Answers.{number_of, text_of, NeedsMemory}
 use Rattle.site_types.specs.declared.answer.Answer.{Answer}
@@ -13,7 +13,7 @@ use Rattle.vault_disk.proofs.Moments.{goes_on, weaker}
 use Rattle.desk_model.specs.State.{State, durable}
 use Rattle.desk_model.specs.Replay.{Mark, plain, memory, fault, Entry, marked_answer}
 use Rattle.site_desk.specs.Stands.{stands, Standing}
-use Rattle.bp_cli.specs.Runs.{Outcome, refused, carried, said, IsAsked, EndsBy, Ends, Replied, Covered, Answers, Replies, Ran, Delivers}
+use Rattle.bp_cli.specs.Runs.{Outcome, refused, carried, said, IsAsked, EndsBy, Ends, Covered, Answers, Replies, Ran}
 use Rattle.bp_cli.proofs.StepLemmas.{unmoved_step}
 
 unmoved_by : (s : State) (e : Entry) (m : Mark) (c : Image) → NeedsMemory (marked_answer s e m) → EndsBy s e m c → stands c ≡ Some (durable s)

@@ -1,11 +1,11 @@
 -- What a step answers.
-use Rattle.std.proofs.Common.{◌≡◌, ◌≢◌, ℕ, List, [], ◌∷◌, Bool, true, false, refl, sym, ◌∙◌, ap, subst}
+use Rattle.std.proofs.Common.{◌≡◌, ℕ, List, [], ◌∷◌, Bool, true, false, refl, sym, subst}
 use Rattle.std.specs.Prelude.{Option, Some, None, is_none, nat_lt, codes}
-use Rattle.site_types.specs.Answers.{number_of, NeedsMemory}
+use Rattle.site_types.specs.Answers.{NeedsMemory}
 use Rattle.site_types.specs.declared.request.Request.{Request}
 use Rattle.site_types.specs.declared.request.Request.TheVariants.{Backup}
 use Rattle.site_types.specs.declared.answer.Answer.{Answer}
-use Rattle.site_types.specs.declared.answer.Answer.TheVariants.{Done, OutOfMemory, BadRequest, Exists, Unknown, InUse, BadLifecycle, Inactive, WindowClosed, AboveHigh, UnitFull, Needed, Short, NoJob, Unaligned, TooMany, ChainBroken, Damaged, DiskFault, ReadFault, SendFault, ClockFault, NotAVault, BadStream}
+use Rattle.site_types.specs.declared.answer.Answer.TheVariants.{OutOfMemory, BadRequest, Unknown, TooMany, DiskFault, SendFault, NotAVault}
 use Rattle.desk_model.specs.Limits.{last_moment}
 use Rattle.desk_model.specs.State.{State}
 use Rattle.desk_model.specs.Step.{step, last_time, new_time, unless_refused, first_refusal, backup_refusals, backup_done, policy_of_backup, schedule_of_backup}

@@ -1,5 +1,5 @@
 -- A run of the program: what is asked, what is answered, and what a stop leaves.
-use Rattle.std.specs.Prelude.{◌≡◌, ◌≢◌, ◌⊎◌, ℕ, List, ◌++◌, Some, Result, Ok, Err, MatchResult}
+use Rattle.std.specs.Prelude.{◌≡◌, ◌≢◌, ◌⊎◌, ℕ, ◌≤◌, List, ◌++◌, length, Some, Result, Ok, Err, MatchResult}
 use Rattle.site_types.specs.Answers.{number_of, text_of, NeedsMemory}
 use Rattle.site_types.specs.declared.answer.Answer.{Answer}
 use Rattle.site_types.specs.declared.answer.Answer.TheVariants.{OutOfMemory, BadRequest, TooMany, DiskFault, ReadFault, SendFault, ClockFault, NotAVault}
@@ -11,6 +11,7 @@ use Rattle.vault_disk.specs.Input.{Input}
 use Rattle.vault_disk.specs.Ticks.{Ticks}
 use Rattle.pool_journal.specs.declared.fault.JournalFault.{JournalFault}
 use Rattle.pool_journal.specs.declared.fault.JournalFault.TheVariants as journal
+use Rattle.desk_model.specs.Limits.{payload_limit}
 use Rattle.desk_model.specs.State.{State, durable}
 use Rattle.desk_model.specs.Replay.{Mark, plain, memory, fault, Entry, stepped, answer_of}
 use Rattle.site_desk.specs.Stands.{opened, stands, StandsFor}
@@ -28,13 +29,14 @@ abbrev pub said : State → Outcome → Answer
 said s (refused answer) = answer
 said s (carried e) = answer_of s e
 
--- The request is what the words ask for, its payload is the whole of the source, and it is carried out at the moment that the words
+-- The request is what the words ask for, its payload is the whole of the source and within its limit, and it is carried out at the moment that the words
 -- name, or else at one that the clock gave.
 pub record IsCarried (words : List (List ℕ)) (input input' : Input) (ticks ticks' : Ticks) (e : Entry) : Type 0 where
   pub asked : Spoken
   pub words_ask : spoken words ≡ Ok asked
   pub request : e.request ≡ asked.request
   pub payload : IsPayload e.payload input input'
+  pub short : length e.payload ≤ payload_limit
   pub moment : IsMoment asked.moment e.moment ticks ticks'
 
 -- Nothing else is carried out, and a refusal has its reason: the index of the first bad word, a payload that is too long, or the offset
@@ -53,7 +55,7 @@ IsAsked words seen input input' ticks ticks' (carried e) = IsCarried words input
 -- a request on an open vault
 abbrev pub IsObeyed : Spoken → Input → Input → Ticks → Ticks → Outcome → Type 0
 IsObeyed asked input input' ticks ticks' (refused answer) = IsUngathered answer input
-IsObeyed asked input input' ticks ticks' (carried e) = (e.request ≡ asked.request) × IsPayload e.payload input input' × IsMoment asked.moment e.moment ticks ticks'
+IsObeyed asked input input' ticks ticks' (carried e) = (e.request ≡ asked.request) × IsPayload e.payload input input' × (length e.payload ≤ payload_limit) × IsMoment asked.moment e.moment ticks ticks'
 
 -- what is answered to words that ask for nothing
 abbrev pub word_refusal_of : WordFault → Answer

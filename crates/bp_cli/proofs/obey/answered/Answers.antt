@@ -1,8 +1,8 @@
-use Rattle.std.proofs.Common.{rules, sym, subst}
+use Rattle.std.proofs.Common.{sym, subst}
 use Rattle.site_types.specs.declared.answer.Answer.{Answer}
 use Rattle.desk_model.specs.State.{durable}
 use Rattle.bp_cli.specs.Runs.{Answers, word_refusal_of}
-use Rattle.bp_cli.proofs.Opened.{answers_untouched, answers_unopened, answers_opened, asked_words}
+use Rattle.bp_cli.proofs.Opened.{answers_untouched, answers_unopened, asked_words}
 use Rattle.bp_cli.proofs.obey.answered.Goals as goal
 
 pub returns-in-Err-clause-answers : goal.returns-in-Err-clause-answers

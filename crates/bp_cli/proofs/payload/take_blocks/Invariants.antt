@@ -1,4 +1,4 @@
-use Rattle.std.proofs.Common.{◌≡◌, ◌≤◌, ◌+◌, ◌-◌, ◌++◌, length, vec_len}
+use Rattle.std.proofs.Common.{◌≡◌, ◌≤◌, ◌+◌, ◌-◌, ◌++◌, vec_len}
 use Rattle.vault_disk.specs.Input.{IsSameInput}
 use Rattle.desk_model.specs.Limits.{payload_limit}
 use Rattle.bp_cli.proofs.payload.take_blocks.Given as goal

@@ -1,4 +1,4 @@
-use Rattle.std.proofs.Common.{refl, Ok, Err}
+use Rattle.std.proofs.Common.{refl}
 use Rattle.bp_cli.proofs.Sending.{delivers_so}
 use Rattle.bp_cli.proofs.session.deliver.Goals as goal
 

@@ -1,4 +1,4 @@
-use Rattle.std.proofs.Common.{rules, ◌≡◌, ◌+◌, ◌∙◌, ap, subst, arith, length, Some, Err}
+use Rattle.std.proofs.Common.{◌≡◌, ◌∙◌, ap, subst, arith, Some, Err}
 use Rattle.site_types.specs.Requests.{IsReading, read_words}
 use Rattle.site_types.specs.declared.request.WordFault.{WordFault}
 use Rattle.bp_cli.specs.Words.{at_moment}
