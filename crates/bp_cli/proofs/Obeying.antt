@@ -8,7 +8,7 @@ use Rattle.vault_disk.specs.Disk.{Disk, Image}
 use Rattle.vault_disk.specs.Input.{Input}
 use Rattle.vault_disk.specs.Ticks.{Ticks}
 use Rattle.vault_disk.proofs.Moments.{started, weaker}
-use Rattle.desk_model.specs.Limits.{payload_limit}
+use Rattle.site_types.specs.Limits.{payload_limit}
 use Rattle.desk_model.specs.State.{State, durable}
 use Rattle.desk_model.specs.Replay.{Mark, plain, memory, fault, Entry, answer_of}
 use Rattle.site_desk.specs.Desk.{Answered, Moved, reached}

@@ -6,7 +6,7 @@ use Rattle.site_types.specs.declared.request.Request.{Request}
 use Rattle.site_types.specs.declared.request.Request.TheVariants.{Backup}
 use Rattle.site_types.specs.declared.answer.Answer.{Answer}
 use Rattle.site_types.specs.declared.answer.Answer.TheVariants.{OutOfMemory, BadRequest, Unknown, TooMany, DiskFault, SendFault, NotAVault}
-use Rattle.desk_model.specs.Limits.{last_moment}
+use Rattle.site_types.specs.Limits.{last_moment}
 use Rattle.desk_model.specs.State.{State}
 use Rattle.desk_model.specs.Step.{step, last_time, new_time, unless_refused, first_refusal, backup_refusals, backup_done, policy_of_backup, schedule_of_backup}
 use Rattle.site_desk.specs.Desk.{Answered}

@@ -4,7 +4,7 @@ use Rattle.site_types.specs.declared.answer.Answer.{Answer}
 use Rattle.site_types.specs.declared.answer.Answer.TheVariants.{OutOfMemory, TooMany, ReadFault, ClockFault}
 use Rattle.vault_disk.specs.Input.{Input}
 use Rattle.vault_disk.specs.Ticks.{Ticks}
-use Rattle.desk_model.specs.Limits.{last_moment, payload_limit}
+use Rattle.site_types.specs.Limits.{last_moment, payload_limit}
 use Rattle.bp_cli.specs.declared.gather.Gathered.{Gathered}
 
 -- the payload is all that was left

@@ -1,6 +1,6 @@
 -- Taking a payload from a source.
 use Rattle.std.specs.Prelude.{◌≡◌, ℕ, ◌<◌, ◌≤◌, List, [], length}
-use Rattle.desk_model.specs.Limits.{payload_limit}
+use Rattle.site_types.specs.Limits.{payload_limit}
 use Rattle.bp_cli.specs.declared.payload.Taken.{Taken}
 use Rattle.bp_cli.specs.declared.payload.Taken.TheVariants.{Whole, TooLong, Failed, NoMemory}
 

@@ -11,7 +11,7 @@ use Rattle.vault_disk.specs.Input.{Input}
 use Rattle.vault_disk.specs.Ticks.{Ticks}
 use Rattle.pool_journal.specs.declared.fault.JournalFault.{JournalFault}
 use Rattle.pool_journal.specs.declared.fault.JournalFault.TheVariants as journal
-use Rattle.desk_model.specs.Limits.{payload_limit}
+use Rattle.site_types.specs.Limits.{payload_limit}
 use Rattle.desk_model.specs.State.{State, durable}
 use Rattle.desk_model.specs.Replay.{Mark, plain, memory, fault, Entry, stepped, answer_of}
 use Rattle.site_desk.specs.Stands.{opened, stands, StandsFor}

@@ -5,7 +5,7 @@ use Rattle.site_types.specs.Requests.{read_words}
 use Rattle.site_types.specs.declared.request.Request.{Request}
 use Rattle.site_types.specs.declared.request.WordFault.{WordFault}
 use Rattle.site_types.specs.declared.request.WordFault.TheVariants.{Bad, NoMemory}
-use Rattle.desk_model.specs.Limits.{last_moment}
+use Rattle.site_types.specs.Limits.{last_moment}
 use Rattle.bp_cli.specs.declared.words.Spoken.{Spoken}
 
 -- a word that begins with @

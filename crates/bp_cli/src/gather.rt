@@ -2,7 +2,7 @@
 ghost use Rattle.std.specs.Prelude.{◌≡◌, ◌≤◌, codes, length, IfOk, IfErr, OnErr};
 ghost use Rattle.vault_disk.specs.Steps.{Rose};
 ghost use Rattle.vault_disk.specs.Input.{IsSameInput};
-ghost use Rattle.desk_model.specs.Limits.{last_moment, payload_limit};
+ghost use Rattle.site_types.specs.Limits.{last_moment, payload_limit};
 ghost use Rattle.bp_cli.specs.Gather.{Gathers, IsLimited, IsMoment, IsTooLongOr, IsUngathered};
 
 use crate::payload::{Taken, take_payload};

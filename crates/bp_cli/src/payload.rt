@@ -2,7 +2,7 @@
 ghost use Rattle.std.specs.Prelude.{◌≡◌, ◌≤◌, ◌<◌, ◌++◌, [], length, IfOk, vec_len};
 ghost use Rattle.vault_disk.specs.Input.{IsSameInput};
 ghost use Rattle.vault_disk.specs.Steps.{Rose};
-ghost use Rattle.desk_model.specs.Limits.{payload_limit};
+ghost use Rattle.site_types.specs.Limits.{payload_limit};
 ghost use Rattle.bp_cli.specs.Payload.{IsTaken, IsShort};
 
 use site_types::{NoMemory, Text};

@@ -1,4 +1,3 @@
-pub mod Limits
 pub mod Site
 pub mod Pieces
 pub mod State

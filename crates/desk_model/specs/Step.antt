@@ -18,7 +18,7 @@ use Rattle.site_types.specs.declared.answer.Answer.{Answer}
 use Rattle.site_types.specs.declared.answer.Answer.TheVariants.{Done, Unknown, TooMany}
 use Rattle.site_types.specs.declared.request.Request.{Request}
 use Rattle.site_types.specs.declared.request.Request.TheVariants.{Backup}
-use Rattle.desk_model.specs.Limits.{last_moment}
+use Rattle.site_types.specs.Limits.{last_moment}
 use Rattle.desk_model.specs.Site.{Site, Policy, Version, Client, adhoc, manual, unit_named, client_named, policy_named, version_named, lifecycle_named, raise_last, Lifecycle}
 use Rattle.desk_model.specs.Pieces.{pieces}
 use Rattle.desk_model.specs.State.{State, Image, Job, backup, duplication, restore, with_image, with_stored}

@@ -1,6 +1,6 @@
 // The clients, by name, and the greatest time of the images of each so far.
 ghost use Rattle.std.specs.Prelude.{◌≡◌, ℕ, ◌+◌, ◌≤◌, ◌++◌, [], max, IfOk, OnOk};
-ghost use Rattle.desk_model.specs.Limits.{last_moment};
+ghost use Rattle.site_types.specs.Limits.{last_moment};
 ghost use Rattle.desk_model.specs.Site.{Client, client_named, raise_last};
 ghost use Rattle.desk_model.specs.Step.{last_of, last_time, new_time};
 ghost use Rattle.desk_model.specs.Plain.{plain_state};
@@ -19,7 +19,7 @@ pub struct PlainClient {
 
 impl Model for PlainClient {
     ghost use Rattle.std.specs.Prelude.{◌≤◌};
-    ghost use Rattle.desk_model.specs.Limits.{last_moment};
+    ghost use Rattle.site_types.specs.Limits.{last_moment};
     ghost use Rattle.desk_model.specs.Site.{Client};
 
     ghost Value = { Client };

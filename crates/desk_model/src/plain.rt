@@ -1,7 +1,7 @@
 ghost use Rattle.std.specs.Prelude.{◌≡◌, ◌≤◌, ◌∷◌, [], ◌++◌, ℕ, true, codes, unwrap_or, IfOk, OnOk, OnErr};
 ghost use Rattle.site_types.specs.Ids.{id_text};
 ghost use Rattle.site_types.specs.Names.{is_name};
-ghost use Rattle.desk_model.specs.Limits.{last_moment};
+ghost use Rattle.site_types.specs.Limits.{last_moment};
 ghost use Rattle.desk_model.specs.Site.{adhoc, initial_site, manual};
 ghost use Rattle.desk_model.specs.State.{initial};
 ghost use Rattle.desk_model.specs.Step.{policy_of_backup, schedule_of_backup, backup_refusals, backup_image, backup_unit, sealed, sealed_entry, step};

@@ -11,7 +11,7 @@ use Rattle.site_types.specs.declared.image.Base.TheVariants as base
 use Rattle.site_types.specs.declared.request.Request.TheVariants.{Backup}
 use Rattle.vault_disk.specs.Disk.{Disk}
 use Rattle.pool_journal.specs.declared.entry.Entry.{Entry}
-use Rattle.desk_model.specs.Limits.{last_moment}
+use Rattle.site_types.specs.Limits.{last_moment}
 use Rattle.desk_model.specs.Site.{Client, client_named, raise_last}
 use Rattle.desk_model.specs.State.{State, Image, Stored, durable, has_image}
 use Rattle.desk_model.specs.Step.{step, last_of, sealed, sealed_entry, new_time, backup_done, unless_refused}

@@ -10,7 +10,7 @@ use Rattle.pool_journal.specs.declared.entry.Entry.TheVariants as entry
 use Rattle.pool_journal.specs.declared.entry.WholeImage.{WholeImage}
 use Rattle.pool_journal.specs.Entries.{Record}
 use Rattle.pool_journal.specs.Records.{Found, Reading, found, broken, foreign, reading}
-use Rattle.desk_model.specs.Limits.{last_moment}
+use Rattle.site_types.specs.Limits.{last_moment}
 use Rattle.desk_model.specs.Site.{client_named, policy_named, version_named}
 use Rattle.desk_model.specs.State.{State, Image, initial, durable, has_image}
 use Rattle.desk_model.specs.Step.{operations_of, unit_of, sealed_entry, sealed}

@@ -2,7 +2,7 @@
 ghost use Rattle.std.specs.Prelude.{◌≡◌, ◌++◌, codes, true, length, IfOk};
 ghost use Rattle.site_types.specs.Names.{is_name};
 ghost use Rattle.site_types.specs.Ids.{id_text};
-ghost use Rattle.desk_model.specs.Limits.{last_moment};
+ghost use Rattle.site_types.specs.Limits.{last_moment};
 ghost use Rattle.site_desk.specs.Desk.{backup_entry, IsTooLate};
 
 use crate::client::Client;

@@ -1,7 +1,7 @@
 ghost use Rattle.std.specs.Prelude.{◌≡◌, ◌≢◌, ◌+◌, ◌<◌, ◌≤◌, true, false, Some, None, Ok, Err, max, length, IfOk, IfErr, MatchResult};
 ghost use Rattle.vault_disk.specs.Disk.{IsSame};
 ghost use Rattle.vault_disk.specs.Steps.{HasCause, IsSameBut, Rose, Sends};
-ghost use Rattle.desk_model.specs.Limits.{last_moment, payload_limit};
+ghost use Rattle.site_types.specs.Limits.{last_moment, payload_limit};
 ghost use Rattle.desk_model.specs.State.{durable};
 ghost use Rattle.site_desk.specs.Stands.{opened, stands, Standing, Between, Opens};
 ghost use Rattle.site_desk.specs.Desk.{Answered, Moved, reached, IsRefusal, IsFaultOf};

@@ -2,7 +2,7 @@
 ghost use Rattle.std.specs.Prelude.{◌≡◌, true, false, ◌&&◌, ◌||◌, not, is_some, nat_le, codes, List, IfOk, OnOk};
 ghost use Rattle.std.specs.Str.{bytes_eq};
 ghost use Rattle.pool_journal.specs.Records.{Found, placed};
-ghost use Rattle.desk_model.specs.Limits.{last_moment};
+ghost use Rattle.site_types.specs.Limits.{last_moment};
 ghost use Rattle.desk_model.specs.Site.{initial_site, policy_named, raise_last, version_named};
 ghost use Rattle.desk_model.specs.State.{Image, Stored, same_id, has_image};
 ghost use Rattle.site_desk.specs.Stands.{is_base_below, image_fits, entry_fits};

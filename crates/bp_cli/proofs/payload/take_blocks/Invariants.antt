@@ -1,6 +1,6 @@
 use Rattle.std.proofs.Common.{◌≡◌, ◌≤◌, ◌+◌, ◌-◌, ◌++◌, vec_len}
 use Rattle.vault_disk.specs.Input.{IsSameInput}
-use Rattle.desk_model.specs.Limits.{payload_limit}
+use Rattle.site_types.specs.Limits.{payload_limit}
 use Rattle.bp_cli.proofs.payload.take_blocks.Given as goal
 
 abbrev pub invariant-loop-count : goal.invariant-loop-count
