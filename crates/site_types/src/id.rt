@@ -5,8 +5,8 @@ use crate::{Name, NoMemory, Text};
 use itoa::Buffer;
 use std::alloc::Global;
 
-/// The id of a backup: its client, and its time in seconds since 1970-01-01T00:00:00Z.
-#[derive(Debug, Drop)]
+/// The id of a backup: its client, and its time in seconds since 1970-01-01T00:00:00Z. Ids are in order of client, and then of time.
+#[derive(Debug, Drop, PartialEq, Eq, PartialOrd, Ord)]
 pub struct BackupId {
     pub client: Name,
     pub time: u64,
