@@ -1,5 +1,5 @@
 -- The state of the desk.
-use Rattle.std.specs.Prelude.{ℕ, ◌==◌, ◌&&◌, Bool, if◌then◌else◌, List, [], ◌∷◌, codes}
+use Rattle.std.specs.Prelude.{ℕ, ◌==◌, ◌&&◌, Bool, if◌then◌else◌, List, [], ◌∷◌, codes, Option, find}
 use Rattle.std.specs.List.{list_any}
 use Rattle.std.specs.Str.{bytes_eq}
 use Rattle.std.specs.Cmp.Lexicographic.{slice_cmp}
@@ -57,6 +57,9 @@ with_image new (i ∷ images) = if is_before new.entry.id i.entry.id then new �
 
 abbrev pub has_image : BackupId → List Image → Bool
 has_image id images = list_any (λ i. same_id i.entry.id id) images
+
+abbrev pub image_named : BackupId → List Image → Option Image
+image_named id images = find (λ i. same_id i.entry.id id) images
 
 -- pieces that a unit's set lacks are added to it
 abbrev pub with_stored : List ℕ → List (List ℕ) → List Stored → List Stored

@@ -1,7 +1,8 @@
 -- What each request answers, and what it makes of the state.
-use Rattle.std.specs.Prelude.{ℕ, ◌+◌, Bool, true, false, is_none, nat_lt, if◌then◌else◌, List, [], ◌∷◌, ◌++◌, length, map, codes, Option, Some, None, option_and_then, unwrap_or, find, fold, max}
+use Rattle.std.specs.Prelude.{ℕ, ◌+◌, ◌==◌, Bool, true, false, not, is_none, nat_lt, if◌then◌else◌, List, [], ◌∷◌, ◌++◌, length, map, codes, Option, Some, None, option_and_then, unwrap_or, find, fold, max}
+use Rattle.std.specs.List.{list_any}
 use Rattle.std.specs.Str.{bytes_eq}
-use Rattle.site_types.specs.Ids.{id_text}
+use Rattle.site_types.specs.Ids.{copy_text, id_text}
 use Rattle.site_types.specs.declared.id.BackupId.{BackupId}
 use Rattle.site_types.specs.declared.unit.Unit.{Unit as StorageUnit}
 use Rattle.site_types.specs.declared.schedule.Schedule.{Schedule}
@@ -17,11 +18,11 @@ use Rattle.site_types.specs.declared.image.Expiry.TheVariants.{Rule}
 use Rattle.site_types.specs.declared.answer.Answer.{Answer}
 use Rattle.site_types.specs.declared.answer.Answer.TheVariants.{Done, Unknown, TooMany}
 use Rattle.site_types.specs.declared.request.Request.{Request}
-use Rattle.site_types.specs.declared.request.Request.TheVariants.{Backup}
-use Rattle.site_types.specs.Limits.{last_moment}
+use Rattle.site_types.specs.declared.request.Request.TheVariants.{Backup, Restore}
+use Rattle.site_types.specs.Limits.{last_moment, payload_limit}
 use Rattle.desk_model.specs.Site.{Site, Policy, Version, Client, adhoc, manual, unit_named, client_named, policy_named, version_named, lifecycle_named, raise_last, Lifecycle}
 use Rattle.desk_model.specs.Pieces.{pieces}
-use Rattle.desk_model.specs.State.{State, Image, Job, backup, duplication, restore, with_image, with_stored}
+use Rattle.desk_model.specs.State.{State, Image, Job, backup, duplication, restore, image_named, with_image, with_stored}
 
 -- the first refusal that holds
 abbrev pub first_refusal : List (Bool × Answer) → Option Answer
@@ -143,6 +144,29 @@ abbrev pub unless_refused : State → Option Answer → Answer × State → Answ
 unless_refused s (Some answer) done = (answer, s)
 unless_refused s None done = done
 
+-- bprestore by id: the number of the copy that is wanted, by default the primary one's; whether a copy of a number is kept; and the image's bytes
+abbrev pub wanted_number : Option ℕ → Option Image → ℕ
+wanted_number (Some number) image = number
+wanted_number None None = 0
+wanted_number None (Some image) = image.entry.primary
+
+abbrev pub has_copy : ℕ → Option Image → Bool
+has_copy number None = false
+has_copy number (Some image) = list_any (λ c. c.number == number) image.entry.copies
+
+abbrev pub bytes_of : Option Image → List ℕ
+bytes_of None = []
+bytes_of (Some image) = image.bytes
+
+-- its refusals, in their order
+abbrev pub restore_refusals : Option Image → BackupId → Option ℕ → List (Bool × Answer)
+restore_refusals image id copy =
+    (is_none image, Unknown (id_text id))
+    ∷ (not (has_copy (wanted_number copy image) image), Unknown (copy_text id (wanted_number copy image)))
+    ∷ (nat_lt payload_limit (length (bytes_of image)), TooMany (codes "bytes") (length (bytes_of image)) payload_limit)
+    ∷ []
+
 -- what a request answers that is given this payload at this moment, and the state after it
 abbrev pub step : State → Request → List ℕ → ℕ → Answer × State
 step s (Backup client) payload moment = unless_refused s (first_refusal (backup_refusals s client moment)) (backup_done s client payload moment)
+step s (Restore id copy) payload moment = let image = image_named id s.images in unless_refused s (first_refusal (restore_refusals image id copy)) (Done (bytes_of image), s)

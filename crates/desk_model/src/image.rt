@@ -1,6 +1,7 @@
 // Images, by client and time.
-ghost use Rattle.std.specs.Prelude.{◌≡◌, ℕ, ◌≤◌, ◌∷◌, ◌++◌, length, take, drop, IfOk, OnOk, OnErr};
+ghost use Rattle.std.specs.Prelude.{◌≡◌, ℕ, ◌≤◌, ◌∷◌, ◌++◌, length, take, drop, Some, IfOk, OnOk, OnErr};
 ghost use Rattle.desk_model.specs.State.{Image, is_before, with_image};
+ghost use Rattle.desk_model.specs.Step.{has_copy};
 
 use site_types::{BackupId, ImageRecord, NoMemory, Text};
 use std::cmp::Ordering;
@@ -32,6 +33,23 @@ impl PlainImage {
         ensures { result.now ≡ self.now.entry.id }
     {
         &self.entry.id
+    }
+
+    pub fn primary(&self) -> u8
+        ensures { result ≡ self.now.entry.primary }
+    {
+        self.entry.primary
+    }
+
+    /// A copy with this number is kept.
+    pub fn has_copy(&self, number: u8) -> bool
+        ensures { result ≡ has_copy number (Some self.now) }
+    {
+        self.entry
+            .copies
+            .as_slice()
+            .iter()
+            .any(|copy| copy.number == number)
     }
 
     pub fn bytes(&self) -> &[u8]

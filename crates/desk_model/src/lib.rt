@@ -7,5 +7,6 @@ mod image;
 mod piece;
 mod plain;
 mod refusal;
+mod restore;
 
 pub use plain::PlainDesk;

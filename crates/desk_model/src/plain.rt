@@ -10,6 +10,7 @@ use crate::client::{PlainClient, last_time, new_time, raise_last};
 use crate::image::{PlainImage, with_image};
 use crate::piece::{pieces, with_pieces};
 use crate::refusal::first_refusal;
+use crate::restore::restored;
 use site_types::{
     Answer, BackupId, Base, CopyRecord, Expiry, ImageRecord, Kind, ListOf, Name, NoMemory, OpState,
     Request, Text,
@@ -67,6 +68,7 @@ impl PlainDesk {
     {
         match request {
             Request::Backup { client } => self.backup(alloc, client, payload, moment),
+            Request::Restore { id, copy } => restored(alloc, &self.images, id, *copy),
         }
     }
 

@@ -1,5 +1,5 @@
 ghost use Rattle.std.specs.Prelude.{◌≡◌, IfOk};
-ghost use Rattle.site_types.specs.Ids.{id_text};
+ghost use Rattle.site_types.specs.Ids.{copy_text, id_text};
 
 use crate::{Name, NoMemory, Text};
 use itoa::Buffer;
@@ -20,6 +20,15 @@ impl BackupId {
         let mut text = self.client.bytes().to_vec(alloc)?;
         text.extend_from_slice(b"_")?;
         text.extend_from_slice(Buffer::new().format(self.time).as_bytes())?;
+        Ok(Text::from_vec(text))
+    }
+    /// A copy of the image as it is written: the id, a slash and the copy's number.
+    pub fn copy_text(&self, alloc: Global, number: u8) -> Result<Text, NoMemory>
+        ensures { IfOk result (λ t. t ≡ copy_text self.now number) }
+    {
+        let mut text = self.text(alloc)?.bytes().to_vec(alloc)?;
+        text.extend_from_slice(b"/")?;
+        text.extend_from_slice(Buffer::new().format(number).as_bytes())?;
         Ok(Text::from_vec(text))
     }
 }

@@ -1,4 +1,4 @@
-use crate::{Name, NoMemory, Text};
+use crate::{BackupId, Name, NoMemory, Text};
 use std::alloc::Global;
 
 /// A request, in the order of their table.
@@ -6,6 +6,8 @@ use std::alloc::Global;
 pub enum Request {
     /// Backs up the payload as a new image of the client.
     Backup { client: Name },
+    /// Gives back the bytes of an image's copy, by default its primary one.
+    Restore { id: BackupId, copy: Option<u8> },
 }
 
 /// Why words are no request.
