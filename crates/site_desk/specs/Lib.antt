@@ -1,4 +1,5 @@
 pub mod Stands
+pub mod Catalogue
 pub mod Desk
 pub mod Clients
 pub mod Opening

@@ -2,6 +2,7 @@
 #![tactic(auto)]
 
 mod backup;
+mod catalogue;
 mod client;
 mod desk;
 mod record;

@@ -1,0 +1,71 @@
+// Where the bytes of images stand.
+ghost use Rattle.std.specs.Prelude.{◌≡◌, cond, None, Some, is_some, IfOk, OnOk, OnErr};
+ghost use Rattle.std.specs.BTreeMap.{is_at};
+ghost use Rattle.site_types.specs.declared.id.BackupId.{BackupId as Id};
+ghost use Rattle.site_desk.specs.Catalogue.{extent_of, id_cmp};
+
+use site_types::{BackupId, NoMemory};
+use std::alloc::Global;
+use std::collections::BTreeMap;
+use std::marker::Model;
+
+/// Where the bytes of an image stand in the journal's file.
+#[derive(Clone, Copy, Debug)]
+pub struct Extent {
+    pub from: u64,
+    pub length: u64,
+}
+
+/// The extents of images, by id.
+#[derive(Drop)]
+pub struct Catalogue {
+    extents: BTreeMap<BackupId, Extent>,
+}
+
+impl Model for Catalogue {
+    ghost use Rattle.std.specs.Prelude.{List};
+    ghost use Rattle.site_types.specs.declared.id.BackupId.{BackupId as Id};
+    ghost use Rattle.site_desk.specs.declared.catalogue.Extent.{Extent as ExtentValue};
+
+    ghost Value = { List (Id × ExtentValue) };
+
+    ghost view = { λ c. c.extents.entries };
+}
+
+impl Catalogue {
+    pub fn new(alloc: Global) -> Catalogue
+        ensures { (id : Id) → extent_of id result ≡ None }
+    {
+        Catalogue {
+            extents: BTreeMap::new(alloc),
+        }
+    }
+
+    pub fn find(&self, id: &BackupId) -> Option<Extent>
+        ensures { result ≡ extent_of id.now self.now }
+    {
+        self.extents.get(id).copied()
+    }
+
+    pub fn contains(&self, id: &BackupId) -> bool
+        ensures { result ≡ is_some (extent_of id.now self.now) }
+    {
+        self.extents.contains_key(id)
+    }
+
+    /// Adds an image, or leaves the catalogue as it was.
+    pub fn add(&mut self, id: BackupId, extent: Extent) -> Result<(), NoMemory>
+        ensures added { OnOk result ((q : Id) → extent_of q self.new ≡ cond (is_at (id_cmp id) q) (Some extent) (extent_of q self.old)) }
+        ensures unchanged { OnErr result (self.new ≡ self.old) }
+    {
+        self.extents.insert(id, extent)?;
+        Ok(())
+    }
+
+    /// Takes an image out.
+    pub fn remove(&mut self, id: &BackupId)
+        ensures { (q : Id) → extent_of q self.new ≡ cond (is_at (id_cmp id.now) q) None (extent_of q self.old) }
+    {
+        let _ = self.extents.remove(id);
+    }
+}
