@@ -1,6 +1,7 @@
 pub mod WordBounds
 pub mod AnswerLemmas
 pub mod StepLemmas
+pub mod Causing
 pub mod Sending
 pub mod Obeying
 pub mod Opened

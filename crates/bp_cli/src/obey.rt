@@ -4,6 +4,7 @@ ghost use Rattle.vault_disk.specs.Disk.{IsSame};
 ghost use Rattle.vault_disk.specs.Steps.{Rose};
 ghost use Rattle.desk_model.specs.State.{State, durable};
 ghost use Rattle.site_desk.specs.Stands.{Standing};
+ghost use Rattle.bp_cli.specs.Causes.{IsCaused, IsCausedHere};
 ghost use Rattle.bp_cli.specs.Gather.{IsLimited};
 ghost use Rattle.bp_cli.specs.Runs.{Answers, IsOfRequest, Obeys, refusal_of, word_refusal_of};
 ghost use Rattle.bp_cli.specs.Words.{spoken};
@@ -26,6 +27,7 @@ fn obey<V: Vault, S: Source, C: Clock>(
     requires running { desk.old.stopped ≡ false }
     requires limited { IsLimited spoken.now.moment }
     ensures obeys { (V.disk desk.old.vault).tells → Standing (V.disk desk.old.vault) desk.old.state → Obeys desk.old.state spoken.now (V.disk desk.old.vault) (V.disk desk.new.vault) (S.input source.old) (S.input source.new) (C.ticks clock.old) (C.ticks clock.new) result }
+    ensures caused { IsCausedHere spoken.now (V.disk desk.old.vault).tells desk.old.state (S.input source.old) (S.input source.new) (C.ticks clock.old) (C.ticks clock.new) result }
     ensures of_request { IsOfRequest result }
     ensures same { IsSame (V.disk desk.old.vault) (V.disk desk.new.vault) }
     ensures disk_fault { result ≡ Answer.DiskFault → Rose (V.disk desk.old.vault).faults (V.disk desk.new.vault).faults }
@@ -70,6 +72,7 @@ pub fn answered<V: Vault, S: Source, C: Clock>(
     clock: &mut C,
 ) -> (V, Answer)
     ensures answers { (s : State) → (V.disk vault).tells → Standing (V.disk vault) s → Answers (durable s) words.now (V.disk vault) (V.disk result.0) (S.input source.old) (S.input source.new) (C.ticks clock.old) (C.ticks clock.new) result.1 }
+    ensures caused { IsCaused words.now (V.disk vault).tells (V.disk vault).seen (S.input source.old) (S.input source.new) (C.ticks clock.old) (C.ticks clock.new) result.1 }
     ensures sendable { result.1 ≢ Answer.SendFault }
     ensures bad_words { MatchResult (spoken words.now) (λ _. (index : ℕ) → result.1 ≢ Answer.BadRequest index) (λ index. (result.1 ≡ Answer.BadRequest index) ⊎ (result.1 ≡ Answer.OutOfMemory)) }
     ensures same { IsSame (V.disk vault) (V.disk result.0) }

@@ -3,6 +3,7 @@ ghost use Rattle.site_types.specs.Answers.{number_of, text_of};
 ghost use Rattle.vault_disk.specs.Steps.{IsSameBut, Rose};
 ghost use Rattle.desk_model.specs.State.{State, durable};
 ghost use Rattle.site_desk.specs.Stands.{Standing};
+ghost use Rattle.bp_cli.specs.Causes.{Caused};
 ghost use Rattle.bp_cli.specs.Words.{spoken};
 ghost use Rattle.bp_cli.specs.Runs.{Ran, Replies, Delivers};
 
@@ -64,6 +65,7 @@ pub fn run<M: Machine, S: Source, C: Clock>(
     clock: &mut C,
 ) -> u8
     ensures ran { (s : State) → (M.disk machine.old).tells → Standing (M.disk machine.old) s → Ran (durable s) words.now (M.disk machine.old) (M.disk machine.new) (S.input source.old) (S.input source.new) (C.ticks clock.old) (C.ticks clock.new) result }
+    ensures caused { Caused words.now (M.disk machine.old).tells (M.disk machine.old).seen (S.input source.old) (S.input source.new) (C.ticks clock.old) (C.ticks clock.new) result }
     ensures bad_words { MatchResult (spoken words.now) (λ _. result ≢ 2) (λ _. (result ≡ 2) ⊎ ((result ≡ 1) ⊎ (result ≡ 20))) }
     ensures disk_fault { result ≡ 18 → Rose (M.disk machine.old).faults (M.disk machine.new).faults }
     ensures read_fault { result ≡ 19 → Rose (S.input source.old).faults (S.input source.new).faults }

@@ -2,6 +2,8 @@ use Rattle.std.proofs.Common.{sym, subst}
 use Rattle.site_types.specs.declared.answer.Answer.{Answer}
 use Rattle.desk_model.specs.State.{durable}
 use Rattle.bp_cli.specs.Runs.{Answers, word_refusal_of}
+use Rattle.bp_cli.specs.Causes.{IsCaused}
+use Rattle.bp_cli.proofs.Causing.{caused_words, caused_unopened, caused_opened}
 use Rattle.bp_cli.proofs.Opened.{answers_untouched, answers_unopened, asked_words}
 use Rattle.bp_cli.proofs.obey.answered.Goals as goal
 
@@ -16,3 +18,18 @@ returns-clause-answers g c s told standing =
     let o = c.in-Err-open_vault.ensures in
     subst (λ (a : Answer). Answers (durable s) c.args.words.now (g.V.Vault.disk c.args.vault) (g.V.Vault.disk c.in-Err-open_vault.refused.0) (g.S.Source.input c.args.source.now) (g.S.Source.input c.args.source.now) (g.C.Clock.ticks c.args.clock.now) (g.C.Clock.ticks c.args.clock.now) a) (sym c.refusal.ensures)
     (answers_unopened s c.args.words.now (g.V.Vault.disk c.args.vault) (g.V.Vault.disk c.in-Err-open_vault.refused.0) standing (g.met.V.Vault.reads_count c.args.vault told) (o.stops told) o.same.sent c.in-Err-open_vault.refused.1 (g.S.Source.input c.args.source.now) (g.S.Source.input c.args.source.now) (g.C.Clock.ticks c.args.clock.now) (g.C.Clock.ticks c.args.clock.now) (o.not_a_vault told))
+
+pub returns-in-Err-clause-caused : goal.returns-in-Err-clause-caused
+returns-in-Err-clause-caused g c =
+    subst (λ (a : Answer). IsCaused c.args.words.now (g.V.Vault.disk c.args.vault).tells (g.V.Vault.disk c.args.vault).seen (g.S.Source.input c.args.source.now) (g.S.Source.input c.args.source.now) (g.C.Clock.ticks c.args.clock.now) (g.C.Clock.ticks c.args.clock.now) a) (sym c.word_refusal.ensures)
+    (caused_words c.args.words.now (g.V.Vault.disk c.args.vault).tells (g.V.Vault.disk c.args.vault).seen (g.S.Source.input c.args.source.now) (g.S.Source.input c.args.source.now) (g.C.Clock.ticks c.args.clock.now) (g.C.Clock.ticks c.args.clock.now) c.in-Err.fault c.in-Err.ensures.spoken)
+
+pub returns-clause-caused : goal.returns-clause-caused
+returns-clause-caused g c =
+    subst (λ (a : Answer). IsCaused c.args.words.now (g.V.Vault.disk c.args.vault).tells (g.V.Vault.disk c.args.vault).seen (g.S.Source.input c.args.source.now) (g.S.Source.input c.args.source.now) (g.C.Clock.ticks c.args.clock.now) (g.C.Clock.ticks c.args.clock.now) a) (sym c.refusal.ensures)
+    (caused_unopened c.args.words.now (g.V.Vault.disk c.args.vault).tells (g.V.Vault.disk c.args.vault).seen (g.S.Source.input c.args.source.now) (g.S.Source.input c.args.source.now) (g.C.Clock.ticks c.args.clock.now) (g.C.Clock.ticks c.args.clock.now) c.in-Ok.spoken c.in-Err-open_vault.refused.1 c.in-Ok.ensures.spoken c.in-Err-open_vault.ensures.not_a_vault)
+
+pub returns-in-Ok-open_vault-clause-caused : goal.returns-in-Ok-open_vault-clause-caused
+returns-in-Ok-open_vault-clause-caused g c =
+    caused_opened c.args.words.now (g.V.Vault.disk c.args.vault).tells (g.V.Vault.disk c.in-Ok-open_vault.desk.vault).tells c.in-Ok-open_vault.ensures.same.tells (g.V.Vault.disk c.args.vault).seen (g.S.Source.input c.args.source.now) (g.S.Source.input c.obey-answer.new.source) (g.C.Clock.ticks c.args.clock.now) (g.C.Clock.ticks c.obey-answer.new.clock)
+    c.in-Ok.spoken c.in-Ok-open_vault.desk.state c.in-Ok.ensures.spoken (λ told. (c.in-Ok-open_vault.ensures.state told).0) c.obey-answer.result c.obey-answer.ensures.of_request c.obey-answer.ensures.caused

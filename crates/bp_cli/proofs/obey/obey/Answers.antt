@@ -1,5 +1,6 @@
 use Rattle.bp_cli.proofs.Obeying.{obeys_step, obeys_refused, ungathered_of_request}
 use Rattle.bp_cli.proofs.StepLemmas.{answered_of_request}
+use Rattle.bp_cli.proofs.Causing.{caused_stepped, caused_ungathered}
 use Rattle.bp_cli.proofs.obey.obey.Goals as goal
 
 pub returns-in-Ok-clause-obeys : goal.returns-in-Ok-clause-obeys
@@ -16,3 +17,11 @@ returns-in-Ok-clause-of_request g c = answered_of_request c.args.desk.now.state 
 
 pub returns-in-Err-clause-of_request : goal.returns-in-Err-clause-of_request
 returns-in-Err-clause-of_request g c = ungathered_of_request c.in-Err.answer (g.S.Source.input c.args.source.now) c.in-Err.ensures.refused
+
+pub returns-in-Ok-clause-caused : goal.returns-in-Ok-clause-caused
+returns-in-Ok-clause-caused g c =
+    caused_stepped c.args.spoken.now (g.V.Vault.disk c.args.desk.now.vault).tells c.args.desk.now.state (g.S.Source.input c.args.source.now) (g.S.Source.input c.gather.new.source) (g.C.Clock.ticks c.args.clock.now) (g.C.Clock.ticks c.gather.new.clock) c.step.result c.in-Ok.field-0 c.bytes.result.now c.bytes.ensures c.in-Ok.ensures.gathered (λ told. c.step.ensures.answers)
+
+pub returns-in-Err-clause-caused : goal.returns-in-Err-clause-caused
+returns-in-Err-clause-caused g c =
+    caused_ungathered c.args.spoken.now (g.V.Vault.disk c.args.desk.now.vault).tells c.args.desk.now.state (g.S.Source.input c.args.source.now) (g.S.Source.input c.gather.new.source) (g.C.Clock.ticks c.args.clock.now) (g.C.Clock.ticks c.gather.new.clock) c.in-Err.answer c.in-Err.ensures.refused

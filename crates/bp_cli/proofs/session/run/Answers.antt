@@ -16,3 +16,6 @@ returns-clause-ran g c s told standing =
 
 pub returns-clause-bad_words : goal.returns-clause-bad_words
 returns-clause-bad_words g c = bad_status (spoken c.args.words.now) c.answered-machine.result.1 c.reply.result c.answered-machine.ensures.bad_words c.reply.ensures.status
+
+pub returns-clause-caused : goal.returns-clause-caused
+returns-clause-caused g c = record { answer = c.answered-machine.result.1; cause = c.answered-machine.ensures.caused; status_is = c.reply.ensures.status }
