@@ -1,2 +1,3 @@
+pub mod IdLemmas
 pub mod NumberLemmas
 pub mod WordLemmas
