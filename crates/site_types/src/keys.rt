@@ -1,5 +1,5 @@
 // The keys of forms, and the values that words give to them.
-ghost use Rattle.std.specs.Prelude.{◌≡◌, ◌≤◌, [], map, IfOk, IfSome, position, option_copied};
+ghost use Rattle.std.specs.Prelude.{◌≡◌, ◌≤◌, [], map, IfOk, IfSome, length, position, option_copied};
 ghost use Rattle.site_types.specs.Requests.{is_equals, has_equals, key_of, value_of, has_key, allows, is_good, first_bad, value_among, name_among, id_among, number_among, is_of, key_stated};
 
 use crate::id::is_id;
@@ -97,7 +97,8 @@ fn is_good(keys: &[FormKey], earlier: &[Text], word: &[u8]) -> bool
 
 // The index in its line of the first bad one among the words behind a form of one word.
 pub fn first_bad(words: &[Text], keys: &[FormKey]) -> Option<u64>
-    ensures { result ≡ first_bad (map key_stated keys.now) [] 1 words.now }
+    ensures index { result ≡ first_bad (map key_stated keys.now) [] 1 words.now }
+    ensures within { IfSome result (λ index. index ≤ length words.now) }
 {
     for (index, word) in words.iter().enumerate() {
         if !is_good(keys, &words[..index], word.bytes()) {

@@ -1,7 +1,7 @@
 // Reading the words behind a form: the keys of each form, and the request that their values make.
 ghost use Rattle.std.specs.Prelude.{◌≡◌, ◌+◌, length, codes};
 ghost use Rattle.site_types.specs.declared.request.WordFault.TheVariants as fault;
-ghost use Rattle.site_types.specs.Requests.{IsReading, number_among, read_backup, read_restore};
+ghost use Rattle.site_types.specs.Requests.{IsReading, IsWithin, number_among, read_backup, read_restore};
 
 use crate::keys::{FormKey, Grammar, first_bad, id_among, name_among, number_among};
 use crate::{Request, Text, WordFault};
@@ -36,7 +36,8 @@ fn missing(words: &[Text]) -> WordFault
 }
 
 pub fn read_backup(alloc: Global, words: &[Text]) -> Result<Request, WordFault>
-    ensures { IsReading result (read_backup words.now) }
+    ensures reading { IsReading result (read_backup words.now) }
+    ensures within { IsWithin result (1 + length words.now) }
 {
     if let Some(index) = first_bad(words, &BACKUP_KEYS) {
         return Err(WordFault::Bad { index });
@@ -55,7 +56,8 @@ fn copy_among(words: &[Text]) -> Option<u8>
 }
 
 pub fn read_restore(alloc: Global, words: &[Text]) -> Result<Request, WordFault>
-    ensures { IsReading result (read_restore words.now) }
+    ensures reading { IsReading result (read_restore words.now) }
+    ensures within { IsWithin result (1 + length words.now) }
 {
     if let Some(index) = first_bad(words, &RESTORE_KEYS) {
         return Err(WordFault::Bad { index });
