@@ -1,2 +1,2 @@
+pub mod IdLemmas
 pub mod NumberLemmas
-pub mod WordLemmas

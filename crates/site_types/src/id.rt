@@ -1,7 +1,10 @@
 ghost use Rattle.std.specs.Prelude.{◌≡◌, IfOk};
-ghost use Rattle.site_types.specs.Ids.{copy_text, id_text};
+ghost use Rattle.std.specs.List.{before_last, after_last};
+ghost use Rattle.site_types.specs.Ids.{copy_text, id_text, is_underscore, id_of, is_id};
 
-use crate::{Name, NoMemory, Text};
+use crate::name::is_name;
+use crate::number::read_number_between;
+use crate::{LAST_MOMENT, Name, NoMemory, Text};
 use itoa::Buffer;
 use std::alloc::Global;
 
@@ -13,6 +16,20 @@ pub struct BackupId {
 }
 
 impl BackupId {
+    /// The id that is written so: a name, an underscore and a time from 1 to the last moment, split at the last underscore.
+    pub fn new(alloc: Global, bytes: &[u8]) -> Result<Option<BackupId>, NoMemory>
+        ensures { IfOk result (λ o. o ≡ id_of bytes.now) }
+    {
+        let (client, time) = split_at_last_underscore(bytes);
+        let Some(time) = read_number_between(time, 1, LAST_MOMENT) else {
+            return Ok(None);
+        };
+        match Name::new(alloc, client)? {
+            Some(client) => Ok(Some(BackupId { client, time })),
+            None => Ok(None),
+        }
+    }
+
     /// The id as it is written: the client's name, an underscore and the time.
     pub fn text(&self, alloc: Global) -> Result<Text, NoMemory>
         ensures { IfOk result (λ t. t ≡ id_text self.now) }
@@ -22,6 +39,7 @@ impl BackupId {
         text.extend_from_slice(Buffer::new().format(self.time).as_bytes())?;
         Ok(Text::from_vec(text))
     }
+
     /// A copy of the image as it is written: the id, a slash and the copy's number.
     pub fn copy_text(&self, alloc: Global, number: u8) -> Result<Text, NoMemory>
         ensures { IfOk result (λ t. t ≡ copy_text self.now number) }
@@ -30,5 +48,23 @@ impl BackupId {
         text.extend_from_slice(b"/")?;
         text.extend_from_slice(Buffer::new().format(number).as_bytes())?;
         Ok(Text::from_vec(text))
+    }
+}
+
+pub fn is_id(bytes: &[u8]) -> bool
+    ensures { result ≡ is_id bytes.now }
+{
+    let (client, time) = split_at_last_underscore(bytes);
+    is_name(client) && read_number_between(time, 1, LAST_MOMENT).is_some()
+}
+
+// What stands before the last underscore, and behind it; without one, all stands behind.
+fn split_at_last_underscore(bytes: &[u8]) -> (&[u8], &[u8])
+    ensures before { result.0.now ≡ before_last is_underscore bytes.now }
+    ensures behind { result.1.now ≡ after_last is_underscore bytes.now }
+{
+    match bytes.iter().rposition(|byte| *byte == b'_') {
+        Some(at) => (&bytes[..at], &bytes[at + 1..]),
+        None => (b"", bytes),
     }
 }

@@ -117,7 +117,7 @@ fn has_name_bytes_alone(bytes: &[u8]) -> bool
     bytes.iter().all(|byte| is_name_byte(*byte))
 }
 
-fn is_name(bytes: &[u8]) -> bool
+pub fn is_name(bytes: &[u8]) -> bool
     ensures { result ≡ is_name bytes.now }
 {
     !bytes.is_empty() && bytes.len() <= 64 && has_name_bytes_alone(bytes)

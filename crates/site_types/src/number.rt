@@ -1,7 +1,7 @@
-ghost use Rattle.std.specs.Prelude.{◌≡◌};
+ghost use Rattle.std.specs.Prelude.{◌≡◌, ◌≤◌, IfSome};
 ghost use Rattle.std.specs.Fmt.{decimal};
 ghost use Rattle.std.specs.Str.{bytes_eq};
-ghost use Rattle.site_types.specs.Numbers.{number_up_to};
+ghost use Rattle.site_types.specs.Numbers.{number_up_to, number_between};
 
 use itoa::Buffer;
 
@@ -19,6 +19,18 @@ pub fn read_number(digits: &[u8], limit: u64) -> Option<u64>
         return Some(number);
     }
     None
+}
+
+/// The number, from `least` to `greatest`, that decimal digits spell so.
+pub fn read_number_between(digits: &[u8], least: u64, greatest: u64) -> Option<u64>
+    ensures number { result ≡ number_between least greatest digits.now }
+    ensures within { IfSome result (λ number. number ≤ greatest) }
+{
+    let number = read_number(digits, greatest)?;
+    if number < least {
+        return None;
+    }
+    Some(number)
 }
 
 fn is_decimal_of(number: u64, digits: &[u8]) -> bool

@@ -1,65 +1,70 @@
-// Reading the words behind a form.
-ghost use Rattle.std.specs.Prelude.{◌≡◌, true, false, Some, None, ◌&&◌, IfOk, MatchOption, is_some, not, position};
-ghost use Rattle.site_types.specs.Requests.{IsReading, is_equals, has_equals, gives_name, key_of, value_of, read_backup};
+// Reading the words behind a form: the keys of each form, and the request that their values make.
+ghost use Rattle.std.specs.Prelude.{◌≡◌, ◌+◌, length, codes};
+ghost use Rattle.site_types.specs.declared.request.WordFault.TheVariants as fault;
+ghost use Rattle.site_types.specs.Requests.{IsReading, IsWithin, number_among, read_backup, read_restore};
 
-use crate::{Name, NoMemory, Request, Text, WordFault};
+use crate::keys::{FormKey, Grammar, first_bad, id_among, name_among, number_among};
+use crate::{Request, Text, WordFault};
 use std::alloc::Global;
 
-fn equals_sign_of(word: &[u8]) -> Option<usize>
-    ensures { result ≡ position is_equals word.now }
-{
-    word.iter().position(|byte| *byte == b'=')
-}
+const BACKUP_KEYS: [FormKey; 1] = [FormKey {
+    name: b"client",
+    grammar: Grammar::Name,
+}];
 
-// A word's key and value.
-fn split_word(word: &[u8]) -> Option<(&[u8], &[u8])>
-    ensures { MatchOption result (has_equals word.now ≡ false) (λ p. (has_equals word.now ≡ true) × (p.0.now ≡ key_of word.now) × (p.1.now ≡ value_of word.now)) }
-{
-    match equals_sign_of(word) {
-        Some(at) => Some((&word[..at], &word[at + 1..])),
-        None => None,
-    }
-}
+const RESTORE_KEYS: [FormKey; 2] = [
+    FormKey {
+        name: b"id",
+        grammar: Grammar::Id,
+    },
+    FormKey {
+        name: b"copy",
+        grammar: Grammar::Number {
+            least: 1,
+            greatest: 32,
+        },
+    },
+];
 
-// The name that a word gives to this key.
-fn name_in(alloc: Global, word: &[u8], key: &[u8]) -> Result<Option<Name>, NoMemory>
-    ensures { IfOk result (λ o. MatchOption o (gives_name key.now word.now ≡ false) (λ n. (n ≡ value_of word.now) × (gives_name key.now word.now ≡ true))) }
+// A word is missing: the fault's index is the number of all words, the form among them.
+fn missing(words: &[Text]) -> WordFault
+    ensures { result ≡ fault.Bad (1 + length words.now) }
 {
-    match split_word(word) {
-        Some((name, value)) if name == key => Name::new(alloc, value),
-        _ => Ok(None),
+    WordFault::Bad {
+        index: 1 + words.len() as u64,
     }
-}
-
-// The name that a word gives to a key that has none yet.
-fn first_name_in(
-    alloc: Global,
-    so_far: &Option<Name>,
-    word: &[u8],
-    key: &[u8],
-) -> Result<Option<Name>, NoMemory>
-    ensures { IfOk result (λ o. MatchOption o ((gives_name key.now word.now && not (is_some so_far.now)) ≡ false) (λ n. (n ≡ value_of word.now) × (gives_name key.now word.now ≡ true) × (so_far.now ≡ None))) }
-{
-    if so_far.is_some() {
-        return Ok(None);
-    }
-    name_in(alloc, word, key)
 }
 
 pub fn read_backup(alloc: Global, words: &[Text]) -> Result<Request, WordFault>
-    ensures { IsReading result (read_backup words.now) }
+    ensures reading { IsReading result (read_backup words.now) }
+    ensures within { IsWithin result (1 + length words.now) }
 {
-    let mut client = None;
-    let mut index = 1;
-    for word in words {
-        let Some(name) = first_name_in(alloc, &client, word.bytes(), b"client")? else {
-            return Err(WordFault::Bad { index });
-        };
-        client = Some(name);
-        index += 1;
+    if let Some(index) = first_bad(words, &BACKUP_KEYS) {
+        return Err(WordFault::Bad { index });
     }
-    match client {
+    match name_among(alloc, words, b"client")? {
         Some(client) => Ok(Request::Backup { client }),
-        None => Err(WordFault::Bad { index }),
+        None => Err(missing(words)),
+    }
+}
+
+fn copy_among(words: &[Text]) -> Option<u8>
+    ensures { result ≡ number_among 1 32 (codes "copy") words.now }
+{
+    let copy = number_among(words, b"copy", 1, 32)?;
+    Some(copy as u8)
+}
+
+pub fn read_restore(alloc: Global, words: &[Text]) -> Result<Request, WordFault>
+    ensures reading { IsReading result (read_restore words.now) }
+    ensures within { IsWithin result (1 + length words.now) }
+{
+    if let Some(index) = first_bad(words, &RESTORE_KEYS) {
+        return Err(WordFault::Bad { index });
+    }
+    let copy = copy_among(words);
+    match id_among(alloc, words, b"id")? {
+        Some(id) => Ok(Request::Restore { id, copy }),
+        None => Err(missing(words)),
     }
 }

@@ -1,3 +1,4 @@
+use crate::read::{read_backup, read_restore};
 use crate::{BackupId, Name, NoMemory, Text};
 use std::alloc::Global;
 
@@ -6,7 +7,7 @@ use std::alloc::Global;
 pub enum Request {
     /// Backs up the payload as a new image of the client.
     Backup { client: Name },
-    /// Gives back the bytes of an image's copy, by default its primary one.
+    /// Restores the image with this id, from the copy of this number or, without one, from its primary copy.
     Restore { id: BackupId, copy: Option<u8> },
 }
 
@@ -30,17 +31,30 @@ impl From<NoMemory> for WordFault {
 }
 
 impl Request {
-    ghost use Rattle.site_types.specs.Requests.{IsReading, read_words};
+    ghost use Rattle.std.specs.Prelude.{◌≡◌, length};
+    ghost use Rattle.site_types.specs.Requests.{IsReading, IsWithin, read_words, takes_payload};
 
     /// The request that these words ask for.
     pub fn read(alloc: Global, words: &[Text]) -> Result<Request, WordFault>
-        ensures { IsReading result (read_words words.now) }
+        ensures reading { IsReading result (read_words words.now) }
+        ensures within { IsWithin result (length words.now) }
     {
         match words {
-            [form, keys @ ..] if form.bytes() == b"bpbackup".as_slice() => {
-                crate::read::read_backup(alloc, keys)
+            [form, keys @ ..] if form.bytes() == b"bpbackup".as_slice() => read_backup(alloc, keys),
+            [form, keys @ ..] if form.bytes() == b"bprestore".as_slice() => {
+                read_restore(alloc, keys)
             }
             _ => Err(WordFault::Bad { index: 0 }),
+        }
+    }
+
+    /// Its line may name a payload.
+    pub fn takes_payload(&self) -> bool
+        ensures { result ≡ takes_payload self.now }
+    {
+        match self {
+            Request::Backup { .. } => true,
+            Request::Restore { .. } => false,
         }
     }
 }

@@ -1,0 +1,2 @@
+/// The greatest moment, and the greatest time of an image, in seconds since 1970-01-01T00:00:00Z.
+pub const LAST_MOMENT: u64 = 250_000_000_000;
