@@ -1,10 +1,10 @@
 -- The two writes of an append, over what is known of the disk.
-use Rattle.std.proofs.Common.{◌≡◌, ◌≢◌, inl, ℕ, ◌+◌, ◌<◌, ◌^◌, List, [], ◌∷◌, ◌++◌, length, drop, Some, refl, sym, ◌∙◌, ap, subst, arith, Ok}
+use Rattle.std.proofs.Common.{◌≡◌, ◌≢◌, inl, ℕ, ◌+◌, ◌<◌, ◌^◌, List, [], ◌∷◌, ◌++◌, length, drop, Some, refl, sym, ◌∙◌, ap, subst, arith, Ok, length-append}
 use Rattle.std.specs.Prelude.{Result}
 use Rattle.vault_disk.specs.Disk.{Disk, Image, During, IsSame}
 use Rattle.vault_disk.specs.Steps.{written, Torn, Changes, Follows, IsDurable, WroteDurably, Tearing}
 use Rattle.vault_disk.proofs.Moments.{started, goes_on, weaker}
-use Rattle.pool_journal.specs.Entries.{Record, body_of, record_of, IsWritable, IsSpellable}
+use Rattle.pool_journal.specs.Entries.{Record, body_of, record_of, spelled_entry, IsWritable, IsSpellable}
 use Rattle.pool_journal.specs.Records.{Found, reading}
 use Rattle.pool_journal.specs.Stops.{AtRest, FromBefore, with_one, IsBeforeOrAfter, Appending, Appended, Stops}
 use Rattle.pool_journal.proofs.Bytes.{front, staged_record, length_staged, reads, torn_behind, staged, torn_gate, gate_opened}
@@ -49,13 +49,16 @@ module _ (fs : List Found) (r : Record) (end : ℕ) (writable : IsWritable r) (o
     spells : record_of (body_of r) ≡ Some r
     spells = record_of-body r can writable.1
 
+    size : length (body_of r) ≡ length (spelled_entry r.entry) + length r.bytes
+    size = length-append (spelled_entry r.entry) r.bytes
+
     pub second_left : (mid : Disk) → Staged bodies (body_of r) old mid → (c : Image) → (d : Image) × mid.may_leave d × Changes 0 (Torn end 1) d c → FromBefore old (IsBeforeOrAfter fs end r) c
     second_left mid staged_now c (d, left, changes) =
         let from = staged_now.left d left in record {
           from = from.from;
           left = from.left;
           others = λ g ne. changes.others g ne ∙ from.others g ne;
-          inside = torn_gate fs end (old.seen 0) rest.holds (body_of r) r writable.0 spells staged_now.rest (c 0) staged_now.gate (subst (λ (l : List ℕ). Torn end 1 l (c 0)) (staged_now.durable.only d left ∙ staged_now.is) changes.inside);
+          inside = torn_gate fs end (old.seen 0) rest.holds (body_of r) r writable.0 spells size staged_now.rest (c 0) staged_now.gate (subst (λ (l : List ℕ). Torn end 1 l (c 0)) (staged_now.durable.only d left ∙ staged_now.is) changes.inside);
         }
 
     pub second_during : (mid now : Disk) → Staged bodies (body_of r) old mid → mid.sent ≡ old.sent → During mid now (Tearing 0 end 1 mid) → During mid now (Appending fs end r old)
@@ -63,7 +66,7 @@ module _ (fs : List Found) (r : Record) (end : ℕ) (writable : IsWritable r) (o
 
     pub second_done : (mid now : Disk) → Staged bodies (body_of r) old mid → Changes 0 (λ o n. n ≡ written o end (165 ∷ [])) mid.seen now.seen → IsDurable 0 now → end + 1 + length (staged_record (body_of r)) < 2 ^ 63 → AtRest now (end + 5 + length (body_of r)) (with_one fs end r)
     second_done mid now staged_now seen durable short =
-        let holds = gate_opened fs end (old.seen 0) rest.holds (body_of r) r writable.0 spells staged_now.rest (now.seen 0) staged_now.gate (seen.inside ∙ ap (λ (l : List ℕ). written l end (165 ∷ [])) staged_now.is) in
+        let holds = gate_opened fs end (old.seen 0) rest.holds (body_of r) r writable.0 spells size staged_now.rest (now.seen 0) staged_now.gate (seen.inside ∙ ap (λ (l : List ℕ). written l end (165 ∷ [])) staged_now.is) in
         record { holds = holds; reads = reads (now.seen 0) (with_one fs end r) (end + 5 + length (body_of r)) holds; durable = durable; short = omega (arith, length_staged (body_of r)) }
 
   pub no_stop : Stops fs end r old old

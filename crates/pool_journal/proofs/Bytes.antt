@@ -7,8 +7,8 @@ use Rattle.std.proofs.lemmas.Bool.Decides.{nat_tests}
 use Rattle.std.proofs.lemmas.Nat.{from_be_bytes-to_be_bytes_4}
 use Rattle.std.specs.Int.{w32, to_be_bytes, from_be_bytes}
 use Rattle.vault_disk.specs.Steps.{written, Torn}
-use Rattle.pool_journal.specs.Entries.{Record, record_of}
-use Rattle.pool_journal.specs.Records.{header, Found, Reading, found, broken, behind, with_record, records, reading, spelled, AllSmall, Spell, Holds}
+use Rattle.pool_journal.specs.Entries.{Record, record_of, spelled_entry}
+use Rattle.pool_journal.specs.Records.{header, Found, Reading, found, broken, behind, bytes_from, with_record, records, reading, spelled, AllSmall, Spell, Holds}
 use Rattle.pool_journal.specs.Stops.{with_one, IsBeforeOrAfter}
 
 when_lt : {A : Type 0} (a b : ℕ) (x y : A) → a < b → (if nat_lt a b then x else y) ≡ x
@@ -25,7 +25,7 @@ when_shut g x y ne = grind (arith, nat_tests)
 
 -- the record at an open gate, its length known
 abbrev pub AtRecord : ℕ → ℕ → ℕ → List ℕ → Reading
-AtRecord n at size rest = if nat_lt (4 + size) (length rest) then with_record at (record_of (take size (drop 4 rest))) (records n (at + 5 + size) (drop (4 + size) rest)) else broken [] at
+AtRecord n at size rest = if nat_lt (4 + size) (length rest) then with_record at size (record_of (take size (drop 4 rest))) (records n (at + 5 + size) (drop (4 + size) rest)) else broken [] at
 
 -- records read before what is read behind them
 abbrev pub all_behind : List Found → Reading → Reading
@@ -55,13 +55,13 @@ read_on (suc n) at (b ∷ bodies) (f ∷ fs) rest spell small some long =
     let long_enough : 4 + length b < length after = omega (arith, length-append (b ++ spelled bodies) rest, length-append b (spelled bodies)) in
     let body : take (length b) (drop 4 after) ≡ b = ap (λ (l : List ℕ). take (length b) l) split ∙ take_at b behind_body (length b) refl in
     let next : drop (4 + length b) after ≡ behind_body = sym (drop-drop (length b) 4 after) ∙ ap (λ (l : List ℕ). drop (length b) l) split ∙ drop_at b behind_body (length b) refl in
-    let more = read_on n (at + 5 + length b) bodies fs rest spell.2 small.1 some (omega arith) in
+    let more = read_on n (at + 5 + length b) bodies fs rest spell.3 small.1 some (omega arith) in
     let place : at + 5 + length b + length (spelled bodies) ≡ at + length (spelled (b ∷ bodies)) = omega (arith, length-append b (spelled bodies)) in
-    let one : record { at = at; is = f.is } ≡ f = λ i. record { at = sym spell.0 i; is = f.is } in
+    let one : record { at = at; from = bytes_from at (length b) f.is; is = f.is } ≡ f = λ i. record { at = sym spell.0 i; from = sym spell.1 i; is = f.is } in
     let here : AtRecord n at (length b) after ≡ all_behind (f ∷ fs) (records (suc more.0) (at + length (spelled (b ∷ bodies))) rest) =
     when_lt (4 + length b) (length after) _ (broken [] at) long_enough
-    ∙ (λ i. with_record at (record_of (body i)) (records n (at + 5 + length b) (next i)))
-    ∙ (λ i. with_record at (spell.1 i) (more.1 i))
+    ∙ (λ i. with_record at (length b) (record_of (body i)) (records n (at + 5 + length b) (next i)))
+    ∙ (λ i. with_record at (length b) (spell.2 i) (more.1 i))
     ∙ ap (λ (g : Found). behind g (all_behind fs (records (suc more.0) (at + 5 + length b + length (spelled bodies)) rest))) one
     ∙ ap (λ (k : ℕ). behind f (all_behind fs (records (suc more.0) k rest))) place in
     (more.0, subst (λ (k : ℕ). AtRecord n at k after ≡ all_behind (f ∷ fs) (records (suc more.0) (at + length (spelled (b ∷ bodies))) rest)) (sym size) here)
@@ -143,13 +143,15 @@ pub AllSmall-push : (bodies : List (List ℕ)) (body : List ℕ) → AllSmall bo
 AllSmall-push [] body small fits = (fits, tt)
 AllSmall-push (x ∷ bodies) body small fits = (small.0, AllSmall-push bodies body small.1 fits)
 
-pub Spell-push : (at : ℕ) (bodies : List (List ℕ)) (fs : List Found) (body : List ℕ) (r : Record) → Spell at bodies fs → record_of body ≡ Some r → Spell at (bodies ++ body ∷ []) (with_one fs (at + length (spelled bodies)) r)
-Spell-push at [] [] body r spell is = (add-zero at, is, tt)
-Spell-push at [] (f ∷ fs) body r spell is = absurd spell
-Spell-push at (b ∷ bodies) [] body r spell is = absurd spell
-Spell-push at (b ∷ bodies) (f ∷ fs) body r spell is =
-    let place : at + 5 + length b + length (spelled bodies) ≡ at + length (spelled (b ∷ bodies)) = omega (arith, length-append b (spelled bodies)) in
-    (spell.0, spell.1, subst (λ (k : ℕ). Spell (at + 5 + length b) (bodies ++ body ∷ []) (with_one fs k r)) place (Spell-push (at + 5 + length b) bodies fs body r spell.2 is))
+pub Spell-push : (at : ℕ) (bodies : List (List ℕ)) (fs : List Found) (body : List ℕ) (f : Found) → Spell at bodies fs → f.at ≡ at + length (spelled bodies) → f.from ≡ bytes_from f.at (length body) f.is → record_of body ≡ Some f.is → Spell at (bodies ++ body ∷ []) (fs ++ f ∷ [])
+Spell-push at [] [] body f spell at_is from_is is =
+    let place : f.at ≡ at = at_is ∙ add-zero at in
+    (place, from_is ∙ ap (λ (k : ℕ). bytes_from k (length body) f.is) place, is, tt)
+Spell-push at [] (g ∷ fs) body f spell at_is from_is is = absurd spell
+Spell-push at (b ∷ bodies) [] body f spell at_is from_is is = absurd spell
+Spell-push at (b ∷ bodies) (g ∷ fs) body f spell at_is from_is is =
+    let place : f.at ≡ at + 5 + length b + length (spelled bodies) = omega (arith, at_is, length-append b (spelled bodies)) in
+    (spell.0, spell.1, spell.2, Spell-push (at + 5 + length b) bodies fs body f spell.3 place from_is is)
 
 length-spelled-push : (bodies : List (List ℕ)) (body : List ℕ) → length (spelled (bodies ++ body ∷ [])) ≡ length (spelled bodies) + 5 + length body
 length-spelled-push bodies body =
@@ -187,7 +189,7 @@ module _ (fs : List Found) (end : ℕ) (o : List ℕ) (holds : Holds o fs end) w
       is ∙ ap (λ (l : List ℕ). written l (end + 1) (staged_record body)) whole ∙ written_at p holds.tail (staged_record body) (end + 1) long
       ∙ append_assoc p (staged_record body) rest ∙ append_assoc (front holds.bodies) (holds.gate ∷ []) (staged_record body ++ rest)
 
-  module _ (body : List ℕ) (r : Record) (fits : length body < 2 ^ 32) (spells : record_of body ≡ Some r) where
+  module _ (body : List ℕ) (r : Record) (fits : length body < 2 ^ 32) (spells : record_of body ≡ Some r) (size : length body ≡ length (spelled_entry r.entry) + length r.bytes) where
     pub opened : (rest : List ℕ) → Holds (front holds.bodies ++ 165 ∷ (staged_record body ++ rest)) (with_one fs end r) (end + 5 + length body)
     opened rest = record {
       bodies = holds.bodies ++ body ∷ [];
@@ -196,7 +198,7 @@ module _ (fs : List Found) (end : ℕ) (o : List ℕ) (holds : Holds o fs end) w
       shut = λ z. absurd (cc z);
       is = append_assoc header (spelled holds.bodies) (165 ∷ (staged_record body ++ rest)) ∙ ap (λ (l : List ℕ). header ++ l) (sym (spelled-push holds.bodies body rest)) ∙ sym (append_assoc header (spelled (holds.bodies ++ body ∷ [])) (0 ∷ rest));
       small = AllSmall-push holds.bodies body holds.small fits;
-      spell = subst (λ (k : ℕ). Spell 16 (holds.bodies ++ body ∷ []) (with_one fs k r)) (sym holds.end_is) (Spell-push 16 holds.bodies fs body r holds.spell spells);
+      spell = Spell-push 16 holds.bodies fs body (record { at = end; from = end + 5 + length (spelled_entry r.entry); is = r }) holds.spell holds.end_is (omega (arith, size)) spells;
       end_is = omega (arith, holds.end_is, length-spelled-push holds.bodies body);
     }
 

@@ -4,3 +4,5 @@ pub mod Bytes
 pub mod Reading
 pub mod Append
 pub mod Opening
+pub mod Suffixes
+pub mod ImageBytes

@@ -9,7 +9,6 @@ use Rattle.std.proofs.lemmas.Nat.{from_be_bytes-to_be_bytes_4}
 use Rattle.std.specs.Int.{w32, to_be_bytes, from_be_bytes}
 use Rattle.pool_journal.specs.Entries.{Record, record_of}
 use Rattle.pool_journal.specs.Records.{header, Found, Reading, broken, records, with_record, reading, placed, placed_of, spelled, AllSmall, Spell, Holds, IsToldOf}
-use Rattle.pool_journal.specs.Stops.{with_one}
 use Rattle.pool_journal.specs.declared.records.Placed.{Placed}
 use Rattle.pool_journal.proofs.Bytes.{AtRecord, reads, broken_at, spelled-one, Spell-push}
 
@@ -47,8 +46,8 @@ cut_short rest some open_gate none n at = ap (λ (l : List ℕ). records (suc n)
 none_of : (n at size : ℕ) (after : List ℕ) → record_of (take size (drop 4 after)) ≡ None → AtRecord n at size after ≡ broken [] at
 none_of n at size after none = at_test (nat_lt (4 + size) (length after))
   where
-    at_test : (b : Bool) → (if b then with_record at (record_of (take size (drop 4 after))) (records n (at + 5 + size) (drop (4 + size) after)) else broken [] at) ≡ broken [] at
-    at_test true = ap (λ (o : Option Record). with_record at o (records n (at + 5 + size) (drop (4 + size) after))) none
+    at_test : (b : Bool) → (if b then with_record at size (record_of (take size (drop 4 after))) (records n (at + 5 + size) (drop (4 + size) after)) else broken [] at) ≡ broken [] at
+    at_test true = ap (λ (o : Option Record). with_record at size o (records n (at + 5 + size) (drop (4 + size) after))) none
     at_test false = refl
 
 pub spells_none : (rest after body next : List ℕ) → rest ≡ 165 ∷ after → after ≡ to_be_bytes w32 (length body) ++ body ++ next → length body < 2 ^ 32 → record_of body ≡ None → (n at : ℕ) → records (suc n) at rest ≡ broken [] at
@@ -67,14 +66,14 @@ one_more bytes bodies body rest after next is rest_is after_is =
     ∙ append_assoc header (spelled bodies) (165 ∷ (to_be_bytes w32 (length body) ++ body ++ next)) ∙ ap (λ (l : List ℕ). header ++ l) (sym (spelled-one bodies body next))
     ∙ sym (append_assoc header (spelled (bodies ++ body ∷ [])) next)
 
-pub one_more_spelled : (bytes : List ℕ) (bodies : List (List ℕ)) (fs : List Found) (body rest : List ℕ) (r : Record) → bytes ≡ header ++ spelled bodies ++ rest → Spell 16 bodies fs → record_of body ≡ Some r → Spell 16 (bodies ++ body ∷ []) (with_one fs (length bytes - length rest) r)
-one_more_spelled bytes bodies fs body rest r is spell spells =
-    let place : 16 + length (spelled bodies) ≡ length bytes - length rest = omega (arith, ap length is, length-append (header ++ spelled bodies) rest) in
-    subst (λ (k : ℕ). Spell 16 (bodies ++ body ∷ []) (with_one fs k r)) place (Spell-push 16 bodies fs body r spell spells)
+pub one_more_spelled : (bytes : List ℕ) (bodies : List (List ℕ)) (fs : List Found) (body rest : List ℕ) (f : Found) (size : ℕ) → bytes ≡ header ++ spelled bodies ++ rest → Spell 16 bodies fs → f.at ≡ length bytes - length rest → f.from ≡ f.at + 5 + size
+    → size + length f.is.bytes ≡ length body → record_of body ≡ Some f.is → Spell 16 (bodies ++ body ∷ []) (fs ++ f ∷ [])
+one_more_spelled bytes bodies fs body rest f size is spell at_is from_is size_is spells =
+    let place : f.at ≡ 16 + length (spelled bodies) = omega (arith, at_is, ap length is, length-append (header ++ spelled bodies) rest) in
+    Spell-push 16 bodies fs body f spell place (omega (arith, from_is, size_is)) spells
 
-pub one_more_placed : (fs : List Found) (at : ℕ) (r : Record) (entries entries' : List Placed) (p : Placed) → entries ≡ placed fs → entries' ≡ entries ++ p ∷ [] → p ≡ record { at = at; entry = r.entry } → entries' ≡ placed (with_one fs at r)
-one_more_placed fs at r entries entries' p are pushed is =
-    pushed ∙ (λ i. are i ++ is i ∷ []) ∙ sym (map-append placed_of fs (record { at = at; is = r } ∷ []))
+pub one_more_placed : (fs : List Found) (f : Found) (entries entries' : List Placed) (p : Placed) → entries ≡ placed fs → entries' ≡ entries ++ p ∷ [] → p ≡ placed_of f → entries' ≡ placed (fs ++ f ∷ [])
+one_more_placed fs f entries entries' p are pushed is = pushed ∙ (λ i. are i ++ is i ∷ []) ∙ sym (map-append placed_of fs (f ∷ []))
 
 -- behind the header
 pub behind_header : (bytes : List ℕ) → starts_with nat_eq bytes header ≡ true → 17 < length bytes → bytes ≡ header ++ take (length bytes - 16) (drop 16 bytes)

@@ -1,5 +1,5 @@
 -- Entries, as they are spelled in a record's body, and as they are read from it.
-use Rattle.std.specs.Prelude.{◌≡◌, ◌≢◌, ℕ, ◌^◌, ◌<◌, ◌==◌, if◌then◌else◌, true, List, ◌∷◌, ◌++◌, length, Option, Some, None, option_map, option_and_then, Result, Ok, Err}
+use Rattle.std.specs.Prelude.{◌≡◌, ◌≢◌, ℕ, ◌+◌, ◌^◌, ◌<◌, ◌==◌, if◌then◌else◌, true, List, ◌∷◌, ◌++◌, length, Option, Some, None, option_map, option_and_then, Result, Ok, Err}
 use Rattle.std.specs.Int.{w16, w64, to_be_bytes}
 use Rattle.site_types.specs.Names.{is_name}
 use Rattle.site_types.specs.declared.id.BackupId.{BackupId}
@@ -12,6 +12,7 @@ use Rattle.pool_journal.specs.declared.fields.FieldFault.TheVariants.{Broken, No
 use Rattle.pool_journal.specs.declared.entry.Entry.{Entry}
 use Rattle.pool_journal.specs.declared.entry.Entry.TheVariants as entry
 use Rattle.pool_journal.specs.declared.entry.WholeImage.{WholeImage}
+use Rattle.pool_journal.specs.declared.entry.Parsed.{Parsed}
 
 -- a record: an entry, and for a whole image its bytes
 pub record Record : Type 0 where
@@ -101,11 +102,11 @@ IsFormed (entry.WholeImage image) bytes = (image.length ≡ length bytes) × (im
 abbrev pub IsWritable : Record → Type 0
 IsWritable r = (length (body_of r) < 2 ^ 32) × IsFormed r.entry r.bytes
 
--- an entry was read: that of the record that the body spells
-abbrev pub IsEntry : Result Entry FieldFault → Option Record → Type 0
-IsEntry (Ok e) read = (bytes : List ℕ) × (read ≡ Some (record { entry = e; bytes = bytes }))
-IsEntry (Err Broken) read = read ≡ None
-IsEntry (Err NoMemory) read = Unit {0}
+-- an entry was read: that of the record that the body spells, with the size of what stands before the record's bytes
+abbrev pub IsEntry : Result Parsed FieldFault → List ℕ → Type 0
+IsEntry (Ok p) body = (bytes : List ℕ) × (record_of body ≡ Some (record { entry = p.entry; bytes = bytes })) × (p.size + length bytes ≡ length body)
+IsEntry (Err Broken) body = record_of body ≡ None
+IsEntry (Err NoMemory) body = Unit {0}
 
 -- the fields of an entry have the ranges of their types: names are names, and numbers fit
 abbrev pub IsNamed : List ℕ → Type 0

@@ -1,8 +1,8 @@
 -- What the calls of a journal leave on the disk, and what a stop in them does.
-use Rattle.std.specs.Prelude.{◌≡◌, ◌≢◌, ◌⊎◌, ℕ, ◌≤◌, ◌<◌, ◌^◌, List, [], ◌∷◌, ◌++◌, length, Option, Some, None, Result, OnOk}
+use Rattle.std.specs.Prelude.{◌≡◌, ◌≢◌, ◌⊎◌, ℕ, ◌+◌, ◌≤◌, ◌<◌, ◌^◌, List, [], ◌∷◌, ◌++◌, length, Option, Some, None, Result, OnOk}
 use Rattle.vault_disk.specs.Disk.{Disk, Image, During}
 use Rattle.vault_disk.specs.Steps.{IsDurable}
-use Rattle.pool_journal.specs.Entries.{Record}
+use Rattle.pool_journal.specs.Entries.{Record, spelled_entry}
 use Rattle.pool_journal.specs.Records.{Found, Reading, found, broken, foreign, reading, placed, Holds}
 use Rattle.pool_journal.specs.declared.records.Placed.{Placed}
 use Rattle.pool_journal.specs.declared.fault.JournalFault.{JournalFault}
@@ -17,7 +17,7 @@ pub record AtRest (disk : Disk) (end : ℕ) (fs : List Found) : Type 0 where
 
 -- the records of a journal with one more behind them
 abbrev pub with_one : List Found → ℕ → Record → List Found
-with_one fs end r = fs ++ record { at = end; is = r } ∷ []
+with_one fs end r = fs ++ record { at = end; from = end + 5 + length (spelled_entry r.entry); is = r } ∷ []
 
 -- the journal's records, with one more or without it
 abbrev pub IsBeforeOrAfter : List Found → ℕ → Record → List ℕ → Type 0
@@ -71,7 +71,7 @@ IsForeign r NoMemory = Unit {0}
 IsForeign r DiskFault = Unit {0}
 IsForeign r (NotAVault offset) = r ≡ foreign offset
 
--- the faults of an append
+-- the faults of an append, and of a read of an image's bytes
 abbrev pub IsOfAppend : JournalFault → Type 0
 IsOfAppend NoMemory = Unit {0}
 IsOfAppend DiskFault = Unit {0}

@@ -1,7 +1,7 @@
 // What a record says.
 ghost use Rattle.std.specs.Prelude.{◌≡◌, IfOk, Ok};
 ghost use Rattle.pool_journal.specs.Fields.{IsField};
-ghost use Rattle.pool_journal.specs.Entries.{id_field, made_under_field, taken_as_field, version_field, moments_field, whole_image_field, record_of, IsEntry};
+ghost use Rattle.pool_journal.specs.Entries.{id_field, made_under_field, taken_as_field, version_field, moments_field, whole_image_field, IsEntry};
 
 use crate::fields::{FieldFault, Fields};
 use site_types::{BackupId, Base, Kind, Name};
@@ -91,18 +91,30 @@ fn read_whole_image(fields: &mut Fields, alloc: Global) -> Result<WholeImage, Fi
     })
 }
 
+/// An entry that was read.
+#[derive(Drop)]
+pub struct Parsed {
+    pub entry: Entry,
+    /// The bytes of the body that it took.
+    pub size: usize,
+}
+
 /// The entry that a record's body spells.
-pub fn read_entry(alloc: Global, body: &[u8]) -> Result<Entry, FieldFault>
-    ensures { IsEntry result (record_of body.now) }
+pub fn read_entry(alloc: Global, body: &[u8]) -> Result<Parsed, FieldFault>
+    ensures { IsEntry result body.now }
 {
     let mut fields = Fields::new(body);
     match fields.byte()? {
         7 => {
             let image = read_whole_image(&mut fields, alloc)?;
-            if image.length != fields.rest().len() as u64 {
+            let rest = fields.rest().len();
+            if image.length != rest as u64 {
                 return Err(FieldFault::Broken);
             }
-            Ok(Entry::WholeImage(image))
+            Ok(Parsed {
+                entry: Entry::WholeImage(image),
+                size: body.len() - rest,
+            })
         }
         _ => Err(FieldFault::Broken),
     }

@@ -12,7 +12,8 @@ pub enum JournalFault {
     NoMemory,
     /// A call of the vault failed.
     DiskFault,
-    /// The file differs from a journal's header, first at this offset.
+    /// The vault is no desk's. For the opening of a journal this is the first offset at which its file differs from the header,
+    /// and for that of a desk also the offset of the first record that is broken or doesn't fit.
     NotAVault { offset: u64 },
 }
 

@@ -37,6 +37,13 @@ impl Journal {
         Journal { end }
     }
 
+    /// The offset of the closed gate. After an append the bytes of its record end here.
+    pub fn end(&self) -> u64
+        ensures { result ≡ self.now }
+    {
+        self.end
+    }
+
     /// Adds a record: the entry, and behind it the bytes of a whole image. It is on the disk when this returns. After a disk
     /// fault the journal is opened again.
     pub fn append<V: Vault>(
@@ -49,6 +56,7 @@ impl Journal {
         requires { IsWritable (record { entry = entry.now; bytes = bytes.now }) }
         ensures appended { (fs : List Found) → (V.disk vault.old).tells → AtRest (V.disk vault.old) self.old fs → OnOk result (Appended fs self.old (record { entry = entry.now; bytes = bytes.now }) (V.disk vault.old) (V.disk vault.new) self.new) }
         ensures stops { (fs : List Found) → (V.disk vault.old).tells → AtRest (V.disk vault.old) self.old fs → Stops fs self.old (record { entry = entry.now; bytes = bytes.now }) (V.disk vault.old) (V.disk vault.new) }
+        ensures placed { (V.disk vault.old).tells → OnOk result (self.new ≡ self.old + 5 + length (spelled_entry entry.now) + length bytes.now) }
         ensures same { IsSame (V.disk vault.old) (V.disk vault.new) }
         ensures failed { IsErrOf result JournalFault.DiskFault → Rose (V.disk vault.old).faults (V.disk vault.new).faults }
         ensures memory { IsErrOf result JournalFault.NoMemory → (self.new ≡ self.old) × (vault.new ≡ vault.old) }

@@ -4,6 +4,7 @@
 mod entry;
 mod fault;
 mod fields;
+mod image_bytes;
 mod journal;
 mod open;
 mod records;

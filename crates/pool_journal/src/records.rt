@@ -17,6 +17,8 @@ pub const HEADER: [u8; 16] = *b"NBDESK VAULT 001";
 #[derive(Debug, Drop)]
 pub struct Placed {
     pub at: u64,
+    /// The offset of the image's bytes.
+    pub from: u64,
     pub entry: Entry,
 }
 
@@ -70,7 +72,11 @@ pub fn read_records(alloc: Global, bytes: &[u8]) -> Result<Records, JournalFault
             });
         };
         match read_entry(alloc, body) {
-            Ok(entry) => entries.push(Placed { at, entry })?,
+            Ok(parsed) => entries.push(Placed {
+                at,
+                from: at + 5 + parsed.size as u64,
+                entry: parsed.entry,
+            })?,
             Err(FieldFault::Broken) => {
                 return Ok(Records {
                     entries,

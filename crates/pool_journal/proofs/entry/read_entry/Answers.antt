@@ -1,12 +1,20 @@
-use Rattle.std.proofs.Common.{◌∙◌, ap, sym, ℕ, List, Some}
+use Rattle.std.proofs.Common.{arith, ◌∙◌, ap, sym, ℕ, List, Some}
 use Rattle.pool_journal.specs.Fields.{byte_field}
 use Rattle.pool_journal.proofs.EntryLemmas.{whole_image_read}
+use Rattle.pool_journal.proofs.Suffixes.{fields_end, no_longer}
 use Rattle.pool_journal.proofs.entry.read_entry.Goals as goal
+
+pub overflow_sub-result : goal.overflow_sub-result
+overflow_sub-result c =
+    no_longer _ _ (fields_end c.args.body.now c.byte.new.self c.rest-rest.result.now 7 c.in_ok-image-in-7.image
+    (ap byte_field (sym c.new-fields.ensures) ∙ c.in_ok-byte.ensures ∙ ap (λ (k : ℕ). Some (k, c.byte.new.self)) c.in-7.is)
+    (c.in_ok-image-in-7.ensures ∙ ap (λ (l : List ℕ). Some (c.in_ok-image-in-7.image, l)) (sym c.rest-rest.ensures)))
 
 pub returns-else-image-rest : goal.returns-else-image-rest
 returns-else-image-rest c = (
-  c.rest.result.now,
-  whole_image_read c.args.body.now c.byte.new.self c.rest.result.now c.in_ok-image-in-7.image
+  c.rest-rest.result.now,
+  whole_image_read c.args.body.now c.byte.new.self c.rest-rest.result.now c.in_ok-image-in-7.image
       (ap byte_field (sym c.new-fields.ensures) ∙ c.in_ok-byte.ensures ∙ ap (λ (k : ℕ). Some (k, c.byte.new.self)) c.in-7.is)
-      (c.in_ok-image-in-7.ensures ∙ ap (λ (l : List ℕ). Some (c.in_ok-image-in-7.image, l)) (sym c.rest.ensures)) c.if-image-rest.false,
+      (c.in_ok-image-in-7.ensures ∙ ap (λ (l : List ℕ). Some (c.in_ok-image-in-7.image, l)) (sym c.rest-rest.ensures)) c.if-image-rest.false,
+  omega (arith, overflow_sub-result c),
 )

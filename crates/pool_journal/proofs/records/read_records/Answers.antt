@@ -1,6 +1,6 @@
-use Rattle.std.proofs.Common.{ap, refl, arith, ◌-◌, [], ◌∷◌, ◌++◌, length}
+use Rattle.std.proofs.Common.{ap, refl, arith, ℕ, ◌+◌, ◌-◌, [], ◌∷◌, ◌++◌, length}
 use Rattle.pool_journal.specs.Entries.{Record}
-use Rattle.pool_journal.specs.Stops.{with_one}
+use Rattle.pool_journal.specs.Records.{Found}
 use Rattle.pool_journal.proofs.Bytes.{AllSmall-push}
 use Rattle.pool_journal.proofs.Reading.{cons_of, told_found, told_broken, cut_short, spells_none, one_more, one_more_spelled, one_more_placed, behind_header}
 use Rattle.pool_journal.proofs.records.read_records.Goals as goal
@@ -34,14 +34,16 @@ returns-in-Err-Broken-clause-told c =
 pub loop-rest-preserved : goal.loop-rest-preserved
 loop-rest-preserved c =
     let i = c.loop-rest.invariant in
-    let entry = c.in-Ok.ensures in
-    let r : Record = record { entry = c.in-Ok.entry; bytes = entry.0 } in
+    let read = c.in-Ok.ensures in
+    let at : ℕ = length c.args.bytes.now - length c.loop-rest.rest.now in
+    let r : Record = record { entry = c.in-Ok.parsed.entry; bytes = read.0 } in
+    let f : Found = record { at = at; from = at + 5 + c.in-Ok.parsed.size; is = r } in
     record {
       bodies = i.bodies ++ c.in-Some.body.now ∷ [];
-      fs = with_one i.fs (length c.args.bytes.now - length c.loop-rest.rest.now) r;
+      fs = i.fs ++ f ∷ [];
       is = one_more _ i.bodies c.in-Some.body.now _ _ c.in-Some.next.now i.is (cons_of _ 165 i.some c.if-gate.false) c.in-Some.ensures.0;
       small = AllSmall-push _ _ i.small c.in-Some.ensures.1;
-      spell = one_more_spelled _ i.bodies i.fs c.in-Some.body.now _ r i.is i.spell entry.1;
-      entries = one_more_placed i.fs _ r _ _ _ i.entries c.in_ok-push-in-Ok.ensures.items refl;
+      spell = one_more_spelled _ i.bodies i.fs c.in-Some.body.now _ f c.in-Ok.parsed.size i.is i.spell refl refl read.2 read.1;
+      entries = one_more_placed i.fs f _ _ _ i.entries c.in_ok-push-in-Ok.ensures.items refl;
       some = c.in-Some.ensures.2;
     }
