@@ -102,9 +102,9 @@ IsFormed (entry.WholeImage image) bytes = (image.length ≡ length bytes) × (im
 abbrev pub IsWritable : Record → Type 0
 IsWritable r = (length (body_of r) < 2 ^ 32) × IsFormed r.entry r.bytes
 
--- an entry was read: that of the record that the body spells, with the size of what stands before the record's bytes
+-- an entry was read: that of the record that the body spells, with the size of what stands before the record's bytes, and their number
 abbrev pub IsEntry : Result Parsed FieldFault → List ℕ → Type 0
-IsEntry (Ok p) body = (bytes : List ℕ) × (record_of body ≡ Some (record { entry = p.entry; bytes = bytes })) × (p.size + length bytes ≡ length body)
+IsEntry (Ok p) body = (bytes : List ℕ) × (record_of body ≡ Some (record { entry = p.entry; bytes = bytes })) × (p.size + length bytes ≡ length body) × (p.left ≡ length bytes)
 IsEntry (Err Broken) body = record_of body ≡ None
 IsEntry (Err NoMemory) body = Unit {0}
 

@@ -50,7 +50,7 @@ reading bytes = if nat_le (length bytes) 17 then found [] else (if starts_with n
 
 -- what an opening hands on of the records that were read
 abbrev pub placed_of : Found → Placed
-placed_of f = record { at = f.at; from = f.from; entry = f.is.entry }
+placed_of f = record { at = f.at; from = f.from; size = length f.is.bytes; entry = f.is.entry }
 
 abbrev pub placed : List Found → List Placed
 placed fs = map placed_of fs

@@ -95,8 +95,9 @@ fn read_whole_image(fields: &mut Fields, alloc: Global) -> Result<WholeImage, Fi
 #[derive(Drop)]
 pub struct Parsed {
     pub entry: Entry,
-    /// The bytes of the body that it took.
+    /// The bytes of the body that it took, and those that are left.
     pub size: usize,
+    pub left: usize,
 }
 
 /// The entry that a record's body spells.
@@ -114,6 +115,7 @@ pub fn read_entry(alloc: Global, body: &[u8]) -> Result<Parsed, FieldFault>
             Ok(Parsed {
                 entry: Entry::WholeImage(image),
                 size: body.len() - rest,
+                left: rest,
             })
         }
         _ => Err(FieldFault::Broken),

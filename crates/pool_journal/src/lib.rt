@@ -8,6 +8,7 @@ mod image_bytes;
 mod journal;
 mod open;
 mod records;
+mod size;
 mod spelling;
 
 pub use entry::{Entry, WholeImage};

@@ -17,8 +17,9 @@ pub const HEADER: [u8; 16] = *b"NBDESK VAULT 001";
 #[derive(Debug, Drop)]
 pub struct Placed {
     pub at: u64,
-    /// The offset of the image's bytes.
+    /// The offset of the image's bytes, and their number.
     pub from: u64,
+    pub size: u64,
     pub entry: Entry,
 }
 
@@ -75,6 +76,7 @@ pub fn read_records(alloc: Global, bytes: &[u8]) -> Result<Records, JournalFault
             Ok(parsed) => entries.push(Placed {
                 at,
                 from: at + 5 + parsed.size as u64,
+                size: parsed.left as u64,
                 entry: parsed.entry,
             })?,
             Err(FieldFault::Broken) => {

@@ -1,4 +1,4 @@
-use Rattle.std.proofs.Common.{arith, ◌∙◌, ap, sym, ℕ, List, Some}
+use Rattle.std.proofs.Common.{refl, arith, ◌∙◌, ap, sym, ℕ, List, Some}
 use Rattle.pool_journal.specs.Fields.{byte_field}
 use Rattle.pool_journal.proofs.EntryLemmas.{whole_image_read}
 use Rattle.pool_journal.proofs.Suffixes.{fields_end, no_longer}
@@ -17,4 +17,5 @@ returns-else-image-rest c = (
       (ap byte_field (sym c.new-fields.ensures) ∙ c.in_ok-byte.ensures ∙ ap (λ (k : ℕ). Some (k, c.byte.new.self)) c.in-7.is)
       (c.in_ok-image-in-7.ensures ∙ ap (λ (l : List ℕ). Some (c.in_ok-image-in-7.image, l)) (sym c.rest-rest.ensures)) c.if-image-rest.false,
   omega (arith, overflow_sub-result c),
+  refl,
 )

@@ -44,6 +44,6 @@ loop-rest-preserved c =
       is = one_more _ i.bodies c.in-Some.body.now _ _ c.in-Some.next.now i.is (cons_of _ 165 i.some c.if-gate.false) c.in-Some.ensures.0;
       small = AllSmall-push _ _ i.small c.in-Some.ensures.1;
       spell = one_more_spelled _ i.bodies i.fs c.in-Some.body.now _ f c.in-Ok.parsed.size i.is i.spell refl refl read.2 read.1;
-      entries = one_more_placed i.fs f _ _ _ i.entries c.in_ok-push-in-Ok.ensures.items refl;
+      entries = one_more_placed i.fs f _ _ _ i.entries c.in_ok-push-in-Ok.ensures.items (ap (λ (n : ℕ). record { at = at; from = at + 5 + c.in-Ok.parsed.size; size = n; entry = c.in-Ok.parsed.entry }) read.3);
       some = c.in-Some.ensures.2;
     }
