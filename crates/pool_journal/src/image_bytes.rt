@@ -25,6 +25,7 @@ impl Journal {
         ensures rest { (fs : List Found) → (V.disk vault.old).tells → AtRest (V.disk vault.old) self.now fs → AtRest (V.disk vault.new) self.now fs }
         ensures same { IsSame (V.disk vault.old) (V.disk vault.new) }
         ensures failed { IsErrOf result JournalFault.DiskFault → Rose (V.disk vault.old).faults (V.disk vault.new).faults }
+        ensures memory { IsErrOf result JournalFault.NoMemory → vault.new ≡ vault.old }
         ensures never { IfErr result IsOfAppend }
     {
         let mut bytes = zeros(alloc, size as usize)?;

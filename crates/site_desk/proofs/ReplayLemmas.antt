@@ -1,17 +1,15 @@
 -- Replaying records one by one.
-use Rattle.std.proofs.Common.{◌≡◌, ◌<◌, ◌≤◌, ◌+◌, ℕ, zero, suc, max, List, [], ◌∷◌, ◌++◌, length, take, drop, get_or, Bool, true, false, Some, None, Err, refl, sym, ◌∙◌, ap, subst, arith, rules}
-use Rattle.std.specs.Prelude.{Option, if◌then◌else◌, ◌||◌, ◌&&◌, ◌==◌}
+use Rattle.std.proofs.Common.{◌≡◌, ◌<◌, ◌≤◌, ◌+◌, ℕ, zero, suc, max, List, [], ◌∷◌, length, drop, get_or, Bool, true, false, Some, None, Err, refl, sym, ◌∙◌, ap, subst, arith, rules}
+use Rattle.std.specs.Prelude.{Option, if◌then◌else◌, ◌||◌, ◌&&◌, not, is_some, nat_le, codes, Contains}
 use Rattle.std.specs.Str.{bytes_eq}
 use Rattle.std.specs.Cmp.Lexicographic.{slice_cmp}
 use Rattle.std.specs.Ordering.{match_ordering, nat_cmp, is_eq, ordering_reverse}
 use Rattle.std.specs.declared.cmp.Ordering.{Ordering}
 use Rattle.std.specs.declared.cmp.Ordering.TheVariants.{Less, Equal, Greater}
-use Rattle.std.proofs.lemmas.List.{take_more, drop_all, length-map}
+use Rattle.std.proofs.lemmas.List.{drop_all, length-map}
 use Rattle.std.specs.Cmp.{IsTotalOrder}
 use Rattle.std.specs.Cmp.Rules.{comparing}
-use Rattle.std.proofs.lemmas.List.Folds.{list_any-append}
 use Rattle.std.proofs.lemmas.Map.Text.{is_eq-slice_cmp}
-use Rattle.std.proofs.lemmas.Bool.Decides.{nat_tests}
 use Rattle.std.proofs.lemmas.Slice.Eq.{bytes_eq-Decides}
 use Rattle.site_types.specs.declared.id.BackupId.{BackupId}
 use Rattle.pool_journal.specs.declared.entry.Entry.{Entry}
@@ -19,13 +17,17 @@ use Rattle.pool_journal.specs.declared.entry.Entry.TheVariants as entry
 use Rattle.pool_journal.specs.declared.entry.WholeImage.{WholeImage}
 use Rattle.pool_journal.specs.declared.records.Placed.{Placed}
 use Rattle.pool_journal.specs.Records.{Found, placed, placed_of}
-use Rattle.desk_model.specs.Site.{Client, client_named, raise_last}
+use Rattle.site_types.specs.Limits.{last_moment}
+use Rattle.desk_model.specs.Site.{Client, adhoc, initial_site, client_named, policy_named, version_named, raise_last}
 use Rattle.desk_model.specs.Step.{last_of, sealed}
 use Rattle.desk_model.specs.State.{State, Image, Stored, initial, same_id, is_before, has_image, with_image}
-use Rattle.site_desk.specs.Stands.{image_fits, entry_fits, whole_image, whole_unit, apply, apply_entry, applied, applied_from}
+use Rattle.site_desk.specs.Stands.{is_base_below, image_fits, entry_fits, whole_image, whole_unit, apply, apply_entry, applied, applied_from}
 use Rattle.site_desk.specs.Desk.{built, TimesBelow}
 use Rattle.site_desk.specs.Clients.{AllAfter, ByName}
-use Rattle.site_desk.specs.Opening.{image_in, id_in, is_recorded, Remembers, Makes}
+use Rattle.site_desk.specs.Catalogue.{extent_of, Adds}
+use Rattle.site_desk.specs.Opening.{image_in, id_in, Remembers, Makes}
+use Rattle.site_desk.specs.declared.catalogue.Extent.{Extent}
+use Rattle.site_desk.proofs.CatalogueLemmas.{same_is, catalogued-with, catalogued-none}
 
 bytes_same : (x : List ℕ) → bytes_eq x x ≡ true
 bytes_same x = (bytes_eq-Decides x x).1 refl
@@ -140,47 +142,36 @@ applied_any : (a b : ℕ) (s : State) (fs : List Found) → applied_from a (Some
 applied_any a b s [] = refl
 applied_any a b s (f ∷ fs) = refl
 
-same_time : (new id : BackupId) → same_id new id ≡ true → (id.client ≡ new.client) × (id.time ≡ new.time)
-same_time new id same =
-    let parts : (bytes_eq new.client id.client ≡ true) × ((new.time == id.time) ≡ true) = both_true (bytes_eq new.client id.client) (new.time == id.time) same in
-    let client : id.client ≡ new.client = sym ((bytes_eq-Decides new.client id.client).0 parts.0) in
-    (client, grind (arith, nat_tests, parts.1))
-  where
-    both_true : (a b : Bool) → (a && b) ≡ true → (a ≡ true) × (b ≡ true)
-    both_true true b is = (refl, is)
-    both_true false b is = absurd (cc is)
-
 -- with an image more, and its client's last time raised, no image has a time above its client's
 pub below-with : (new : Image) (clients : List Client) (images : List Image) → ByName clients → TimesBelow clients images → TimesBelow (raise_last new.entry.id.client new.entry.id.time clients) (with_image new images)
 below-with new clients images sorted below id has = at (same_id new.entry.id id) refl (sym (has_image-with id new images) ∙ has)
   where
     at : (b : Bool) → same_id new.entry.id id ≡ b → (b || has_image id images) ≡ true → id.time ≤ last_of (client_named id.client (raise_last new.entry.id.client new.entry.id.time clients))
     at true same either =
-        let is = same_time new.entry.id id same in
-        let raised = raised_self new.entry.id.client new.entry.id.time clients in
-        subst (λ (n : List ℕ). id.time ≤ last_of (client_named n (raise_last new.entry.id.client new.entry.id.time clients))) (sym is.0) (omega (arith, is.1, raised))
+        subst (λ (x : BackupId). x.time ≤ last_of (client_named x.client (raise_last new.entry.id.client new.entry.id.time clients))) (same_is new.entry.id id same) (raised_self new.entry.id.client new.entry.id.time clients)
     at false differs old =
         let earlier = below id old in
         let grows = raised_grows id.client new.entry.id.client new.entry.id.time clients sorted in
         omega (arith, earlier, grows)
 
 -- the record at an index
-pub record_at : (records : List Found) (i : ℕ) (p : Placed) → i < length (placed records) → p ≡ get_or (placed records) i p → (f : Found) × (drop i records ≡ f ∷ drop (i + 1) records) × (placed_of f ≡ p)
+pub record_at : (records : List Found) (i : ℕ) (p : Placed) → i < length (placed records) → p ≡ get_or (placed records) i p → (f : Found) × (drop i records ≡ f ∷ drop (i + 1) records) × (placed_of f ≡ p) × Contains records f
 record_at [] i p lt is = absurd (omega arith)
-record_at (f ∷ records) zero p lt is = (f, ap (λ (l : List Found). f ∷ l) (sym (drop-one f records)), sym is)
+record_at (f ∷ records) zero p lt is = (f, ap (λ (l : List Found). f ∷ l) (sym (drop-one f records)), sym is, (0, omega arith, refl))
   where
     drop-one : (g : Found) (gs : List Found) → drop 1 (g ∷ gs) ≡ gs
     drop-one g gs = refl
 record_at (f ∷ records) (suc i) p lt is =
     let inner = record_at records i p (omega arith) is in
-    (inner.0, inner.1 ∙ ap (λ (k : ℕ). inner.0 ∷ drop k (f ∷ records)) (let k_is : suc (i + 1) ≡ suc i + 1 = omega arith in k_is), inner.2)
+    let k : ℕ = inner.3.0 in
+    (inner.0, inner.1 ∙ ap (λ (k : ℕ). inner.0 ∷ drop k (f ∷ records)) (let k_is : suc (i + 1) ≡ suc i + 1 = omega arith in k_is), inner.2, (suc k, omega (arith, inner.3.1), inner.3.2))
 
--- the records up to an index make these clients
-pub record SoFar (records : List Found) (clients : List Client) (i : ℕ) : Type 0 where
+-- the records up to an index make these clients, and the catalogue has their images
+pub record SoFar (records : List Found) (clients : List Client) (extents : List (BackupId × Extent)) (i : ℕ) : Type 0 where
   pub images : List Image
   pub stored : List Stored
   pub so_far : applied initial records ≡ applied_from 0 (Some (built clients images stored)) (drop i records)
-  pub remembers : Remembers clients (take i (placed records)) images
+  pub remembers : Remembers records clients extents images
 
 fitting : (b : Bool) (s : State) → b ≡ true → (if b then Some s else None) ≡ Some s
 fitting b s is = λ i. if is i then Some s else None
@@ -191,13 +182,15 @@ unfitting b s is = λ i. if is i then Some s else None
 applied_entry : (s : State) (f : Found) (p : Placed) (w : WholeImage) → placed_of f ≡ p → p.entry ≡ entry.WholeImage w → apply s f.is ≡ (if image_fits s w then Some (sealed (whole_image s w f.is.bytes) (whole_unit s w) s) else None)
 applied_entry s f p w is entry_is = ap (λ (e : Entry). apply_entry s e f.is.bytes) (ap (λ (q : Placed). q.entry) is ∙ entry_is)
 
-either_or : (b c : Bool) → (b || c) ≡ (c || (b || false))
-either_or true true = refl
-either_or true false = refl
-either_or false true = refl
-either_or false false = refl
+first_of : (has a b c d e f g : Bool) → (not has && a && b && c && d && e && f && g) ≡ true → has ≡ false
+first_of true a b c d e f g is = absurd (cc is)
+first_of false a b c d e f g is = refl
 
-module _ (records : List Found) (clients : List Client) (i : ℕ) (p : Placed) (w : WholeImage) (far : SoFar records clients i) (lt : i < length (placed records)) (is : p ≡ get_or (placed records) i p) (entry_is : p.entry ≡ entry.WholeImage w) where
+is_new : (s : State) (w : WholeImage) → image_fits s w ≡ true → has_image w.id s.images ≡ false
+is_new s w fits =
+    first_of (has_image w.id s.images) (is_some (policy_named w.policy s.site.policies)) (is_some (version_named w.lifecycle w.version s.site.lifecycles)) (is_some (client_named w.id.client s.site.clients) || bytes_eq w.policy (codes "adhoc")) (nat_le 1 w.id.time) (nat_le w.id.time last_moment) (is_base_below w.base w.id.time) (nat_le w.completed last_moment) fits
+
+module _ (records : List Found) (clients : List Client) (extents : List (BackupId × Extent)) (i : ℕ) (p : Placed) (w : WholeImage) (far : SoFar records clients extents i) (lt : i < length (placed records)) (is : p ≡ get_or (placed records) i p) (entry_is : p.entry ≡ entry.WholeImage w) where
   abbrev before : State
   before = built clients far.images far.stored
 
@@ -208,67 +201,79 @@ module _ (records : List Found) (clients : List Client) (i : ℕ) (p : Placed) (
       ∙ ap (λ (o : Option State). applied_from here.0.at o (drop (i + 1) records)) (applied_entry before here.0 p w here.2 entry_is ∙ unfitting (image_fits before w) _ differs)
       ∙ ap (λ (q : Placed). Err q.at) here.2
 
-  pub fit : (clients' : List Client) → clients' ≡ raise_last w.id.client w.id.time clients → image_fits before w ≡ true → SoFar records clients' (i + 1)
-  fit clients' clients_are fits =
+  pub fit : (clients' : List Client) (extents' : List (BackupId × Extent)) → clients' ≡ raise_last w.id.client w.id.time clients → Adds w.id (record { from = p.from; length = p.size }) extents extents' → image_fits before w ≡ true → SoFar records clients' extents' (i + 1)
+  fit clients' extents' clients_are adds fits =
       let here = record_at records i p lt is in
       let image : Image = whole_image before w here.0.is.bytes in
       let next : State = sealed image (whole_unit before w) before in
-      subst (λ (cs : List Client). SoFar records cs (i + 1)) (sym clients_are) (record {
+      let fresh : has_image w.id far.images ≡ false = is_new before w fits in
+      subst (λ (cs : List Client). SoFar records cs extents' (i + 1)) (sym clients_are) (record {
         images = with_image image far.images;
         stored = next.stored;
         so_far = far.so_far ∙ ap (λ (l : List Found). applied_from 0 (Some before) l) here.1
             ∙ ap (λ (o : Option State). applied_from here.0.at o (drop (i + 1) records)) (applied_entry before here.0 p w here.2 entry_is ∙ fitting (image_fits before w) next fits)
             ∙ applied_any here.0.at 0 next (drop (i + 1) records);
         remembers = record {
-          has = λ id. has_image-with id image far.images ∙ ap (λ (b : Bool). same_id w.id id || b) (far.remembers.has id)
-              ∙ sym (ap (is_recorded id) (take_more (placed records) i p lt ∙ ap (λ (q : Placed). take i (placed records) ++ q ∷ []) (sym is))
-              ∙ list_any-append (λ (q : Placed). same_id (id_in q.entry) id) (take i (placed records)) (p ∷ [])
-              ∙ ap (λ (e : Entry). is_recorded id (take i (placed records)) || (same_id (id_in e) id || false)) entry_is
-              ∙ sym (swapped (same_id w.id id) (is_recorded id (take i (placed records)))));
+          catalogued = catalogued-with records records extents extents' far.images image (record { from = p.from; length = p.size }) (λ f there. there) fresh far.remembers.catalogued adds
+              (record { place = here.0; among = here.3; from = sym (ap (λ (q : Placed). q.from) here.2); size = sym (ap (λ (q : Placed). q.size) here.2); bytes = refl; copy = _; copies = refl; number = refl; primary = refl });
           by_name = by_name-raised w.id.client w.id.time clients far.remembers.by_name;
           below = below-with image clients far.images far.remembers.by_name far.remembers.below;
         };
       })
-    where
-      swapped : (b c : Bool) → (b || c) ≡ (c || (b || false))
-      swapped b c = either_or b c
 
 -- before the first record
-pub nothing_yet : (records : List Found) (clients : List Client) → clients ≡ [] → SoFar records clients 0
-nothing_yet records clients none = subst (λ (cs : List Client). SoFar records cs 0) (sym none) (record {
+pub nothing_yet : (records : List Found) (clients : List Client) (extents : List (BackupId × Extent)) → clients ≡ [] → ((id : BackupId) → extent_of id extents ≡ None) → SoFar records clients extents 0
+nothing_yet records clients extents none empty = subst (λ (cs : List Client). SoFar records cs extents 0) (sym none) (record {
   images = [];
   stored = initial.stored;
   so_far = refl;
-  remembers = record { has = λ id. refl; by_name = tt; below = λ id has. absurd (cc has) };
+  remembers = record { catalogued = catalogued-none records extents empty; by_name = tt; below = λ id has. absurd (cc has) };
 })
 
 -- the next record doesn't fit, or fits
-pub unfit_at : (records : List Found) (clients : List Client) (i : ℕ) (p : Placed) (far : SoFar records clients i) → i < length (placed records) → p ≡ get_or (placed records) i p → entry_fits (built clients far.images far.stored) p.entry ≡ false → applied initial records ≡ Err p.at
-unfit_at records clients i p far lt is = at p.entry refl
+pub unfit_at : (records : List Found) (clients : List Client) (extents : List (BackupId × Extent)) (i : ℕ) (p : Placed) (far : SoFar records clients extents i) → i < length (placed records) → p ≡ get_or (placed records) i p → entry_fits (built clients far.images far.stored) p.entry ≡ false → applied initial records ≡ Err p.at
+unfit_at records clients extents i p far lt is = at p.entry refl
   where
     at : (e : Entry) → p.entry ≡ e → entry_fits (built clients far.images far.stored) e ≡ false → applied initial records ≡ Err p.at
-    at (entry.WholeImage w) entry_is differs = unfit records clients i p w far lt is entry_is differs
+    at (entry.WholeImage w) entry_is differs = unfit records clients extents i p w far lt is entry_is differs
 
-pub fit_at : (records : List Found) (clients clients' : List Client) (i : ℕ) (p : Placed) (far : SoFar records clients i) → i < length (placed records) → p ≡ get_or (placed records) i p → entry_fits (built clients far.images far.stored) p.entry ≡ true
-    → clients' ≡ raise_last (id_in p.entry).client (id_in p.entry).time clients → SoFar records clients' (i + 1)
-fit_at records clients clients' i p far lt is = at p.entry refl
+pub fit_at : (records : List Found) (clients clients' : List Client) (extents extents' : List (BackupId × Extent)) (i : ℕ) (p : Placed) (far : SoFar records clients extents i) → i < length (placed records) → p ≡ get_or (placed records) i p → entry_fits (built clients far.images far.stored) p.entry ≡ true
+    → clients' ≡ raise_last (id_in p.entry).client (id_in p.entry).time clients → Adds (id_in p.entry) (record { from = p.from; length = p.size }) extents extents' → SoFar records clients' extents' (i + 1)
+fit_at records clients clients' extents extents' i p far lt is = at p.entry refl
   where
-    at : (e : Entry) → p.entry ≡ e → entry_fits (built clients far.images far.stored) e ≡ true → clients' ≡ raise_last (id_in e).client (id_in e).time clients → SoFar records clients' (i + 1)
-    at (entry.WholeImage w) entry_is fits clients_are = fit records clients i p w far lt is entry_is clients' clients_are fits
+    at : (e : Entry) → p.entry ≡ e → entry_fits (built clients far.images far.stored) e ≡ true → clients' ≡ raise_last (id_in e).client (id_in e).time clients → Adds (id_in e) (record { from = p.from; length = p.size }) extents extents' → SoFar records clients' extents' (i + 1)
+    at (entry.WholeImage w) entry_is fits clients_are adds = fit records clients extents i p w far lt is entry_is clients' extents' clients_are adds fits
 
 -- all records were replayed
-pub all_replayed : (records : List Found) (clients : List Client) (i : ℕ) → length (placed records) ≤ i → SoFar records clients i → Makes clients records
-all_replayed records clients i past far = record {
+pub all_replayed : (records : List Found) (clients : List Client) (extents : List (BackupId × Extent)) (i : ℕ) → length (placed records) ≤ i → SoFar records clients extents i → Makes clients extents records
+all_replayed records clients extents i past far = record {
   images = far.images;
   stored = far.stored;
   made = far.so_far ∙ ap (λ (l : List Found). applied_from 0 (Some (built clients far.images far.stored)) l) (drop_all i records (omega (arith, length-map records placed_of)));
-  by_name = far.remembers.by_name;
-  below = far.remembers.below;
+  remembers = far.remembers;
 }
-
-pub remembered : (records : List Found) (clients known : List Client) (i : ℕ) (entries : List Placed) (far : SoFar records clients i) → placed records ≡ entries → known ≡ clients → Remembers known (take i entries) far.images
-remembered records clients known i entries far placed_are known_are =
-    subst (λ (cs : List Client). Remembers cs (take i entries) far.images) (sym known_are) (subst (λ (l : List Placed). Remembers clients (take i l) far.images) placed_are far.remembers)
 
 pub entry_fits-image : (s : State) (e : Entry) → image_fits s (image_in e) ≡ entry_fits s e
 entry_fits-image s (entry.WholeImage w) = refl
+
+all_of : (n p v k a t u b c : Bool) → (p ≡ true → a ≡ true) → (n && (p && v) && (t && u && b && c)) ≡ (n && p && v && (k || a) && t && u && b && c)
+all_of false p v k a t u b c adhoc_is = refl
+all_of true false v k a t u b c adhoc_is = refl
+all_of true true false k a t u b c adhoc_is = refl
+all_of true true true k a t u b c adhoc_is = λ i. sym (either k a (adhoc_is refl)) i && t && u && b && c
+  where
+    either : (x y : Bool) → y ≡ true → (x || y) ≡ true
+    either true y is = refl
+    either false y is = is
+
+-- what an image of the built-in site has to meet
+pub fits_site : (clients : List Client) (images : List Image) (stored : List Stored) (w : WholeImage)
+    → (not (has_image w.id images) && (is_some (policy_named w.policy initial_site.policies) && is_some (version_named w.lifecycle w.version initial_site.lifecycles)) && (nat_le 1 w.id.time && nat_le w.id.time last_moment && is_base_below w.base w.id.time && nat_le w.completed last_moment))
+    ≡ image_fits (built clients images stored) w
+fits_site clients images stored w =
+    all_of (not (has_image w.id images)) (is_some (policy_named w.policy initial_site.policies)) (is_some (version_named w.lifecycle w.version initial_site.lifecycles)) (is_some (client_named w.id.client clients)) (bytes_eq w.policy (codes "adhoc")) (nat_le 1 w.id.time) (nat_le w.id.time last_moment) (is_base_below w.base w.id.time) (nat_le w.completed last_moment)
+    (named (bytes_eq (codes "adhoc") w.policy) refl)
+  where
+    named : (b : Bool) → bytes_eq (codes "adhoc") w.policy ≡ b → is_some (if b then Some adhoc else None) ≡ true → bytes_eq w.policy (codes "adhoc") ≡ true
+    named true same there = (bytes_eq-Decides w.policy (codes "adhoc")).1 (sym ((bytes_eq-Decides (codes "adhoc") w.policy).0 same))
+    named false same there = absurd (cc there)

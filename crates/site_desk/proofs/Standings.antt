@@ -1,5 +1,5 @@
 -- What the journal's promises say of the desk's state.
-use Rattle.std.proofs.Common.{◌≡◌, ◌⊎◌, inl, inr, ⊎_elim, ℕ, List, [], ◌∷◌, Some, None, Ok, sym, ◌∙◌, ap, subst}
+use Rattle.std.proofs.Common.{◌≡◌, ◌⊎◌, inl, inr, ⊎_elim, ℕ, List, [], ◌∷◌, Some, None, Ok, refl, sym, ◌∙◌, ap, subst}
 use Rattle.std.specs.Prelude.{Option}
 use Rattle.std.specs.Result.{result_ok}
 use Rattle.vault_disk.specs.Disk.{Disk, Image as DiskImage}
@@ -10,7 +10,7 @@ use Rattle.pool_journal.specs.Records.{Found, Reading, found, reading, Holds}
 use Rattle.pool_journal.specs.Stops.{FromBefore, with_one, IsBeforeOrAfter, Stops, Appending, Appended, OpenStops, SameReading}
 use Rattle.desk_model.specs.State.{State, initial, durable}
 use Rattle.site_desk.specs.Stands.{apply, applied_from, applied, stood, stands, Standing, StandsFor, Between, Opens}
-use Rattle.site_desk.specs.Desk.{KeptState}
+use Rattle.site_desk.specs.Desk.{KeptState, KeptMore}
 
 applied-push : (at : ℕ) (o : Option State) (fs : List Found) (end : ℕ) (r : Record) (s t : State) → applied_from at o fs ≡ Ok s → apply s r ≡ Some t → applied_from at o (with_one fs end r) ≡ Ok t
 applied-push at None fs end r s t is fits = absurd (cc is)
@@ -45,10 +45,10 @@ module _ (s t : State) (r : Record) (old new : Disk) (end : ℕ) (kept : KeptSta
         during = weaker old new (Appending kept.records end r old) (λ c b. StandsFor s t c × (b ≡ old.sent)) (λ c b left. (either c left.0, left.1)) stops.during;
       }
 
-  pub kept_on : (end' : ℕ) → Appended kept.records end r old new end' → KeptState new end' t
-  kept_on end' appended = record { records = with_one kept.records end r; rest = appended.rest; made = made }
+  pub kept_on : (end' : ℕ) → Appended kept.records end r old new end' → KeptMore kept.records end r new end' t
+  kept_on end' appended = record { kept = record { records = with_one kept.records end r; rest = appended.rest; made = made }; records_are = refl }
 
-pub still_kept : (old new : Disk) (end : ℕ) (s : State) → Rests old new → KeptState old end s → KeptState new end s
+abbrev pub still_kept : (old new : Disk) (end : ℕ) (s : State) → Rests old new → KeptState old end s → KeptState new end s
 still_kept old new end s rests kept = record {
   records = kept.records;
   rest = record {

@@ -1,5 +1,5 @@
 -- Where the bytes of images stand in the journal's file.
-use Rattle.std.specs.Prelude.{◌≡◌, ℕ, List, [], ◌∷◌, length, Option, Some, None, Contains}
+use Rattle.std.specs.Prelude.{◌≡◌, cond, List, [], ◌∷◌, length, Option, Some, None, Contains}
 use Rattle.std.specs.BTreeMap.{is_at}
 use Rattle.std.specs.Cmp.Lexicographic.{slice_cmp}
 use Rattle.std.specs.Map.{lookup}
@@ -18,6 +18,14 @@ id_cmp a b = ordering_then (slice_cmp nat_cmp a.client b.client) (nat_cmp a.time
 -- the extent of the image with this id
 abbrev pub extent_of : BackupId → List (BackupId × Extent) → Option Extent
 extent_of id extents = lookup (is_at (id_cmp id)) extents
+
+-- an image was added with its extent
+abbrev pub Adds : BackupId → Extent → List (BackupId × Extent) → List (BackupId × Extent) → Type 0
+Adds id extent old new = (q : BackupId) → extent_of q new ≡ cond (is_at (id_cmp id) q) (Some extent) (extent_of q old)
+
+-- an image was taken out
+abbrev pub Removes : BackupId → List (BackupId × Extent) → List (BackupId × Extent) → Type 0
+Removes id old new = (q : BackupId) → extent_of q new ≡ cond (is_at (id_cmp id) q) None (extent_of q old)
 
 -- the image is that of a record, whose bytes have this extent, with one copy, number 1
 pub record IsKeptAt (records : List Found) (extent : Extent) (image : Image) : Type 0 where

@@ -2,14 +2,15 @@
 use Rattle.std.specs.Prelude.{◌≡◌, ◌≤◌, ℕ, Bool, true, List, [], codes, Result, Ok, Err}
 use Rattle.site_types.specs.declared.id.BackupId.{BackupId}
 use Rattle.site_types.specs.declared.answer.Answer.{Answer}
-use Rattle.site_types.specs.declared.answer.Answer.TheVariants.{Done, OutOfMemory, TooMany, DiskFault}
+use Rattle.site_types.specs.declared.answer.Answer.TheVariants.{Done, OutOfMemory, BadRequest, TooMany, DiskFault, ReadFault, SendFault, ClockFault, NotAVault}
 use Rattle.site_types.specs.declared.request.Request.{Request}
 use Rattle.site_types.specs.Limits.{last_moment}
 use Rattle.vault_disk.specs.Disk.{Disk}
 use Rattle.pool_journal.specs.declared.fault.JournalFault.{JournalFault}
 use Rattle.pool_journal.specs.declared.fault.JournalFault.TheVariants as journal
 use Rattle.pool_journal.specs.Records.{Found}
-use Rattle.pool_journal.specs.Stops.{AtRest}
+use Rattle.pool_journal.specs.Entries.{Record}
+use Rattle.pool_journal.specs.Stops.{AtRest, with_one}
 use Rattle.desk_model.specs.Site.{Client, initial_site, client_named}
 use Rattle.desk_model.specs.State.{State, Image, Stored, initial, has_image}
 use Rattle.desk_model.specs.Step.{step, last_of}
@@ -20,7 +21,9 @@ use Rattle.pool_journal.specs.declared.entry.Entry.TheVariants as entry
 use Rattle.site_desk.specs.Stands.{applied, opened, Standing, Between}
 use Rattle.site_desk.specs.declared.record.Recorded.{Recorded}
 use Rattle.site_desk.specs.declared.record.Recorded.TheVariants.{Written}
+use Rattle.site_desk.specs.Catalogue.{Catalogued}
 use Rattle.site_desk.specs.Clients.{ByName}
+use Rattle.site_desk.specs.declared.catalogue.Extent.{Extent}
 
 -- the built-in site with these clients, images and pieces, without jobs
 abbrev pub built : List Client → List Image → List Stored → State
@@ -53,11 +56,12 @@ pub record KeptState (disk : Disk) (end : ℕ) (state : State) : Type 0 where
   pub rest : AtRest disk end records
   pub made : applied initial records ≡ Ok state
 
--- they make the state with these clients
-pub record Kept (disk : Disk) (end : ℕ) (clients : List Client) : Type 0 where
+-- they make the state with these clients, and the images stand where the catalogue says
+pub record Kept (disk : Disk) (end : ℕ) (clients : List Client) (extents : List (BackupId × Extent)) : Type 0 where
   pub images : List Image
   pub stored : List Stored
   pub kept : KeptState disk end (built clients images stored)
+  pub catalogued : Catalogued kept.records extents images
   pub by_name : ByName clients
   pub below : TimesBelow clients images
 
@@ -82,6 +86,15 @@ abbrev pub reached : State → Request → List ℕ → ℕ → Answer → State
 reached s request payload moment OutOfMemory = s
 reached s request payload moment answer = (step s request payload moment).1
 
+-- what a step may be answered on any vault
+abbrev pub IsOfStep : Answer → Type 0
+IsOfStep (BadRequest index) = ⊥
+IsOfStep ReadFault = ⊥
+IsOfStep SendFault = ⊥
+IsOfStep ClockFault = ⊥
+IsOfStep (NotAVault offset) = ⊥
+IsOfStep answer = Unit {0}
+
 -- nothing was done
 abbrev pub IsRefusal : Answer → Type 0
 IsRefusal (Done body) = ⊥
@@ -102,10 +115,15 @@ backup_entry client time moment length = entry.WholeImage (record {
   length = length;
 })
 
+-- the journal is at rest with one record more, and makes this state
+pub record KeptMore (fs : List Found) (at : ℕ) (r : Record) (disk : Disk) (end : ℕ) (state : State) : Type 0 where
+  pub kept : KeptState disk end state
+  pub records_are : kept.records ≡ with_one fs at r
+
 -- a record was written that takes one state to another
-pub record Commits (s t : State) (old new : Disk) (end : ℕ) (result : Recorded) : Type 0 where
+pub record Commits (s t : State) (fs : List Found) (at : ℕ) (r : Record) (old new : Disk) (end : ℕ) (result : Recorded) : Type 0 where
   pub between : Between s t old new
-  pub kept : result ≡ Written → KeptState new end t
+  pub kept : result ≡ Written → KeptMore fs at r new end t
   pub standing : result ≡ Written → Standing new t
 
 -- too late for an image's time, or no memory to say so

@@ -3,3 +3,4 @@ pub mod Catalogue
 pub mod Desk
 pub mod Clients
 pub mod Opening
+pub mod Restores

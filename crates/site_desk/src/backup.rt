@@ -56,6 +56,7 @@ fn id_line(alloc: Global, id: &BackupId) -> Result<Text, NoMemory>
 /// All that a backup needs of memory.
 #[derive(Drop)]
 pub struct Prepared {
+    pub id: BackupId,
     pub entry: Entry,
     /// What the request is answered once the image is sealed.
     pub body: Text,
@@ -71,14 +72,17 @@ pub fn prepare(
     moment: u64,
     size: u64,
 ) -> Result<Prepared, NoMemory>
+    ensures id { IfOk result (λ p. p.id ≡ record { client = client.now; time = time }) }
     ensures entry { IfOk result (λ p. p.entry ≡ backup_entry client.now time moment size) }
     ensures body { IfOk result (λ p. p.body ≡ id_text (record { client = client.now; time = time }) ++ codes "\n") }
     ensures client { IfOk result (λ p. p.client ≡ record { name = client.now; last = time }) }
 {
     let image = image_of(alloc, client, time, moment, size)?;
+    let id = image.id.copy(alloc)?;
     let body = id_line(alloc, &image.id)?;
     let client = Client::new(client.copy(alloc)?, time);
     Ok(Prepared {
+        id,
         entry: Entry::WholeImage(image),
         body,
         client,

@@ -1,9 +1,10 @@
 // Where the bytes of images stand.
-ghost use Rattle.std.specs.Prelude.{◌≡◌, cond, None, Some, is_some, IfOk, OnOk, OnErr};
-ghost use Rattle.std.specs.BTreeMap.{is_at};
+ghost use Rattle.std.specs.Prelude.{◌≡◌, ◌+◌, ◌<◌, ◌^◌, length, None, is_some, OnOk, OnErr};
+ghost use Rattle.pool_journal.specs.Entries.{spelled_entry};
 ghost use Rattle.site_types.specs.declared.id.BackupId.{BackupId as Id};
-ghost use Rattle.site_desk.specs.Catalogue.{extent_of, id_cmp};
+ghost use Rattle.site_desk.specs.Catalogue.{extent_of, Adds, Removes};
 
+use pool_journal::Entry;
 use site_types::{BackupId, NoMemory};
 use std::alloc::Global;
 use std::collections::BTreeMap;
@@ -24,6 +25,7 @@ pub struct Catalogue {
 
 impl Model for Catalogue {
     ghost use Rattle.std.specs.Prelude.{List};
+    ghost use Rattle.pool_journal.specs.Entries.{spelled_entry};
     ghost use Rattle.site_types.specs.declared.id.BackupId.{BackupId as Id};
     ghost use Rattle.site_desk.specs.declared.catalogue.Extent.{Extent as ExtentValue};
 
@@ -55,7 +57,7 @@ impl Catalogue {
 
     /// Adds an image, or leaves the catalogue as it was.
     pub fn add(&mut self, id: BackupId, extent: Extent) -> Result<(), NoMemory>
-        ensures added { OnOk result ((q : Id) → extent_of q self.new ≡ cond (is_at (id_cmp id) q) (Some extent) (extent_of q self.old)) }
+        ensures added { OnOk result (Adds id extent self.old self.new) }
         ensures unchanged { OnErr result (self.new ≡ self.old) }
     {
         self.extents.insert(id, extent)?;
@@ -64,8 +66,19 @@ impl Catalogue {
 
     /// Takes an image out.
     pub fn remove(&mut self, id: &BackupId)
-        ensures { (q : Id) → extent_of q self.new ≡ cond (is_at (id_cmp id.now) q) None (extent_of q self.old) }
+        ensures { Removes id.now self.old self.new }
     {
         let _ = self.extents.remove(id);
+    }
+}
+
+/// Where the bytes of the next record will stand, behind the journal's closed gate at this offset.
+pub fn next_extent(end: u64, entry: &Entry, bytes: &[u8]) -> Extent
+    ensures from { end + 5 + length (spelled_entry entry.now) < 2 ^ 63 → result.from ≡ end + 5 + length (spelled_entry entry.now) }
+    ensures length { result.length ≡ length bytes.now }
+{
+    Extent {
+        from: end.saturating_add(5).saturating_add(entry.size()),
+        length: bytes.len() as u64,
     }
 }

@@ -1,17 +1,19 @@
-ghost use Rattle.std.specs.Prelude.{◌≡◌, ◌≢◌, ◌+◌, ◌<◌, ◌≤◌, true, false, Some, None, Ok, Err, max, length, IfOk, IfErr, MatchResult};
+ghost use Rattle.std.specs.Prelude.{◌≡◌, ◌≢◌, ◌+◌, ◌<◌, ◌≤◌, ℕ, true, false, List, Some, None, Ok, Err, max, length, IfOk, IfErr, MatchResult};
 ghost use Rattle.vault_disk.specs.Disk.{IsSame};
 ghost use Rattle.vault_disk.specs.Steps.{HasCause, IsSameBut, Rose, Sends};
 ghost use Rattle.site_types.specs.Limits.{last_moment, payload_limit};
 ghost use Rattle.desk_model.specs.State.{durable};
 ghost use Rattle.site_desk.specs.Stands.{opened, stands, Standing, Between, Opens};
-ghost use Rattle.site_desk.specs.Desk.{Answered, Moved, reached, IsRefusal, IsFaultOf};
+ghost use Rattle.site_desk.specs.Desk.{Answered, Moved, reached, IsOfStep, IsRefusal, IsFaultOf};
 
 use crate::backup::{Prepared, prepare, too_late};
+use crate::catalogue::{Catalogue, next_extent};
 use crate::client::{Client, last_of, make_room, place_of, raise_at};
 use crate::record::{Recorded, write_record};
-use crate::replay::replay;
+use crate::replay::{id_in, replay};
+use crate::restore::wanted;
 use pool_journal::{Journal, JournalFault};
-use site_types::{Answer, Name, Request};
+use site_types::{Answer, BackupId, Name, Request};
 use std::alloc::Global;
 use std::marker::Model;
 use vault_disk::{Failed, Machine, Vault};
@@ -24,6 +26,7 @@ pub struct Desk<V: Vault> {
     vault: V,
     journal: Journal,
     clients: Vec<Client>,
+    catalogue: Catalogue,
     stopped: bool,
 }
 
@@ -35,7 +38,7 @@ impl<V: Vault> Model for Desk<V> {
 
     ghost view = { λ d. record { state = desk_state (V.disk d.vault) d.clients.items; stopped = d.stopped; vault = d.vault } };
 
-    ghost invariant = { λ d. d.stopped ≡ false → (V.disk d.vault).tells → Kept (V.disk d.vault) d.journal d.clients.items };
+    ghost invariant = { λ d. d.stopped ≡ false → (V.disk d.vault).tells → Kept (V.disk d.vault) d.journal d.clients.items d.catalogue };
 }
 
 impl<V: Vault> Desk<V> {
@@ -68,6 +71,7 @@ impl<V: Vault> Desk<V> {
             vault,
             journal: found.journal,
             clients: replayed.clients,
+            catalogue: replayed.catalogue,
             stopped: false,
         })
     }
@@ -78,7 +82,8 @@ impl<V: Vault> Desk<V> {
         requires running { self.old.stopped ≡ false }
         requires payload { length payload.now ≤ payload_limit }
         requires moment { moment ≤ last_moment }
-        ensures answers { Answered self.old.state request.now payload.now moment result }
+        ensures answers { (V.disk self.old.vault).tells → Answered self.old.state request.now payload.now moment result }
+        ensures kinds { IsOfStep result }
         ensures moves { (V.disk self.old.vault).tells → Moved self.old.state request.now payload.now moment result self.new.state }
         ensures refused { IsRefusal result → self.new ≡ self.old }
         ensures running { result ≢ Answer.DiskFault → self.new.stopped ≡ false }
@@ -90,6 +95,7 @@ impl<V: Vault> Desk<V> {
     {
         match request {
             Request::Backup { client } => self.backup(alloc, client, payload, moment),
+            Request::Restore { id, copy } => self.restore(alloc, id, *copy),
         }
     }
 
@@ -98,6 +104,7 @@ impl<V: Vault> Desk<V> {
         requires payload { length payload.now ≤ payload_limit }
         requires moment { moment ≤ last_moment }
         ensures answers { Answered self.old.state (Request.Backup client.now) payload.now moment result }
+        ensures kinds { IsOfStep result }
         ensures moves { (V.disk self.old.vault).tells → Moved self.old.state (Request.Backup client.now) payload.now moment result self.new.state }
         ensures refused { IsRefusal result → self.new ≡ self.old }
         ensures running { result ≢ Answer.DiskFault → self.new.stopped ≡ false }
@@ -119,21 +126,61 @@ impl<V: Vault> Desk<V> {
             return Answer::OutOfMemory;
         };
         let Prepared {
+            id,
             entry,
             body,
             client,
         } = prepared;
+        let extent = next_extent(self.journal.end(), &entry, payload);
+        let Ok(()) = self.catalogue.add(id, extent) else {
+            return Answer::OutOfMemory;
+        };
         match write_record(alloc, &mut self.journal, &mut self.vault, &entry, payload) {
             Recorded::Written => {
                 let place = place_of(&self.clients, client.name());
                 raise_at(&mut self.clients, place, client);
                 Answer::Done { body }
             }
-            Recorded::NoMemory => Answer::OutOfMemory,
+            Recorded::NoMemory => {
+                self.catalogue.remove(id_in(&entry));
+                Answer::OutOfMemory
+            }
             Recorded::Fault => {
                 self.stopped = true;
                 Answer::DiskFault
             }
+        }
+    }
+
+    // The image's bytes, from its copy of this number or, without one, from its primary copy.
+    fn restore(&mut self, alloc: Global, id: &BackupId, copy: Option<u8>) -> Answer
+        requires running { self.old.stopped ≡ false }
+        ensures answers { (payload : List ℕ) (moment : ℕ) → (V.disk self.old.vault).tells → Answered self.old.state (Request.Restore id.now copy) payload moment result }
+        ensures kinds { IsOfStep result }
+        ensures moves { (payload : List ℕ) (moment : ℕ) → (V.disk self.old.vault).tells → Moved self.old.state (Request.Restore id.now copy) payload moment result self.new.state }
+        ensures refused { IsRefusal result → self.new ≡ self.old }
+        ensures running { result ≢ Answer.DiskFault → self.new.stopped ≡ false }
+        ensures stopped { result ≡ Answer.DiskFault → self.new.stopped ≡ true }
+        ensures failed { result ≡ Answer.DiskFault → Rose (V.disk self.old.vault).faults (V.disk self.new.vault).faults }
+        ensures same { IsSame (V.disk self.old.vault) (V.disk self.new.vault) }
+        ensures standing { (V.disk self.old.vault).tells → result ≢ Answer.DiskFault → Standing (V.disk self.new.vault) self.new.state }
+        ensures stops { (payload : List ℕ) (moment : ℕ) → (V.disk self.old.vault).tells → Between self.old.state (reached self.old.state (Request.Restore id.now copy) payload moment result) (V.disk self.old.vault) (V.disk self.new.vault) }
+    {
+        let found = match wanted(alloc, &self.catalogue, id, copy) {
+            Ok(found) => found,
+            Err(refusal) => return refusal,
+        };
+        match self
+            .journal
+            .read_bytes(alloc, &mut self.vault, found.from, found.length)
+        {
+            Ok(body) => Answer::Done { body },
+            Err(JournalFault::NoMemory) => Answer::OutOfMemory,
+            Err(JournalFault::DiskFault) => {
+                self.stopped = true;
+                Answer::DiskFault
+            }
+            Err(JournalFault::NotAVault { .. }) => unreachable!(),
         }
     }
 
@@ -152,6 +199,7 @@ impl<V: Vault> Desk<V> {
             vault,
             journal: _,
             clients: _,
+            catalogue: _,
             stopped: _,
         } = self;
         vault

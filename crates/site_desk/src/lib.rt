@@ -7,5 +7,6 @@ mod client;
 mod desk;
 mod record;
 mod replay;
+mod restore;
 
 pub use desk::Desk;

@@ -1,8 +1,8 @@
 // A record on the disk, for any request.
-ghost use Rattle.std.specs.Prelude.{◌≡◌, Some};
+ghost use Rattle.std.specs.Prelude.{◌≡◌, ◌+◌, length, Some};
 ghost use Rattle.vault_disk.specs.Disk.{IsSame};
 ghost use Rattle.vault_disk.specs.Steps.{Rose};
-ghost use Rattle.pool_journal.specs.Entries.{IsWritable};
+ghost use Rattle.pool_journal.specs.Entries.{spelled_entry, IsWritable};
 ghost use Rattle.desk_model.specs.State.{State, durable};
 ghost use Rattle.site_desk.specs.Stands.{apply};
 ghost use Rattle.site_desk.specs.Desk.{KeptState, Commits};
@@ -26,7 +26,8 @@ pub fn write_record<V: Vault>(
     bytes: &[u8],
 ) -> Recorded
     requires { IsWritable (record { entry = entry.now; bytes = bytes.now }) }
-    ensures commits { (s t : State) → (V.disk vault.old).tells → KeptState (V.disk vault.old) journal.old s → s ≡ durable s → t ≡ durable t → apply s (record { entry = entry.now; bytes = bytes.now }) ≡ Some t → Commits s t (V.disk vault.old) (V.disk vault.new) journal.new result }
+    ensures commits { (s t : State) → (V.disk vault.old).tells → (k : KeptState (V.disk vault.old) journal.old s) → s ≡ durable s → t ≡ durable t → apply s (record { entry = entry.now; bytes = bytes.now }) ≡ Some t → Commits s t k.records journal.old (record { entry = entry.now; bytes = bytes.now }) (V.disk vault.old) (V.disk vault.new) journal.new result }
+    ensures placed { (V.disk vault.old).tells → result ≡ Recorded.Written → journal.new ≡ journal.old + 5 + length (spelled_entry entry.now) + length bytes.now }
     ensures same { IsSame (V.disk vault.old) (V.disk vault.new) }
     ensures failed { result ≡ Recorded.Fault → Rose (V.disk vault.old).faults (V.disk vault.new).faults }
     ensures memory { result ≡ Recorded.NoMemory → (journal.new ≡ journal.old) × (vault.new ≡ vault.old) }

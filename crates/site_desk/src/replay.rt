@@ -1,26 +1,21 @@
 // Replaying the entries of a journal.
-ghost use Rattle.std.specs.Prelude.{◌≡◌, true, false, ◌&&◌, ◌||◌, not, is_some, nat_le, codes, List, IfOk, OnOk};
-ghost use Rattle.std.specs.Str.{bytes_eq};
+ghost use Rattle.std.specs.Prelude.{◌≡◌, ◌&&◌, not, is_some, nat_le, List, IfOk, OnOk};
 ghost use Rattle.pool_journal.specs.Records.{Found, placed};
 ghost use Rattle.site_types.specs.Limits.{last_moment};
-ghost use Rattle.desk_model.specs.Site.{initial_site, policy_named, raise_last, version_named};
-ghost use Rattle.desk_model.specs.State.{Image, Stored, same_id, has_image};
+ghost use Rattle.desk_model.specs.Site.{Client as ClientValue, initial_site, policy_named, raise_last, version_named};
+ghost use Rattle.desk_model.specs.State.{Image, Stored, has_image};
 ghost use Rattle.site_desk.specs.Stands.{is_base_below, image_fits, entry_fits};
 ghost use Rattle.site_desk.specs.Desk.{built};
-ghost use Rattle.site_desk.specs.Opening.{image_in, id_in, is_recorded, Remembers, IsReplayed};
+ghost use Rattle.site_desk.specs.Catalogue.{Adds};
+ghost use Rattle.site_desk.specs.Opening.{image_in, id_in, Remembers, IsReplayed};
 
-use crate::client::{Client, last_of, make_room, place_of, raise_at};
+use crate::catalogue::{Catalogue, Extent};
+use crate::client::{Client, make_room, place_of, raise_at};
 use pool_journal::{Entry, Placed, WholeImage};
 use site_types::{BackupId, Base, NoMemory};
 use std::alloc::Global;
 
 const LAST_MOMENT: u64 = 250_000_000_000;
-
-fn is_same_id(a: &BackupId, b: &BackupId) -> bool
-    ensures { result ≡ same_id a.now b.now }
-{
-    a.client.bytes() == b.client.bytes() && a.time == b.time
-}
 
 fn image_in(entry: &Entry) -> &WholeImage
     ensures { result.now ≡ image_in entry.now }
@@ -30,25 +25,11 @@ fn image_in(entry: &Entry) -> &WholeImage
     }
 }
 
-fn id_in(entry: &Entry) -> &BackupId
+/// The id of an entry's image.
+pub fn id_in(entry: &Entry) -> &BackupId
     ensures { result.now ≡ id_in entry.now }
 {
     &image_in(entry).id
-}
-
-fn is_recorded(id: &BackupId, entries: &[Placed]) -> bool
-    ensures { result ≡ is_recorded id.now entries.now }
-{
-    entries
-        .iter()
-        .any(|placed| is_same_id(id_in(&placed.entry), id))
-}
-
-// A time above the client's last is new without a look at each entry.
-fn is_new(clients: &[Client], earlier: &[Placed], id: &BackupId) -> bool
-    ensures { (images : List Image) → Remembers clients.now earlier.now images → result ≡ not (has_image id.now images) }
-{
-    id.time > last_of(clients, id.client.bytes()) || !is_recorded(id, earlier)
 }
 
 fn is_built_in(image: &WholeImage) -> bool
@@ -77,31 +58,37 @@ fn is_in_time(image: &WholeImage) -> bool
         && image.completed <= LAST_MOMENT
 }
 
-fn image_fits(clients: &[Client], earlier: &[Placed], image: &WholeImage) -> bool
-    ensures { (images : List Image) (stored : List Stored) → Remembers clients.now earlier.now images → result ≡ image_fits (built clients.now images stored) image.now }
+fn is_new(catalogue: &Catalogue, id: &BackupId) -> bool
+    ensures { (records : List Found) (clients : List ClientValue) (images : List Image) → Remembers records clients catalogue.now images → result ≡ not (has_image id.now images) }
 {
-    is_new(clients, earlier, &image.id) && is_built_in(image) && is_in_time(image)
+    !catalogue.contains(id)
 }
 
-fn fits(clients: &[Client], earlier: &[Placed], entry: &Entry) -> bool
-    ensures { (images : List Image) (stored : List Stored) → Remembers clients.now earlier.now images → result ≡ entry_fits (built clients.now images stored) entry.now }
+fn image_fits(clients: &[Client], catalogue: &Catalogue, image: &WholeImage) -> bool
+    ensures { (records : List Found) (images : List Image) (stored : List Stored) → Remembers records clients.now catalogue.now images → result ≡ image_fits (built clients.now images stored) image.now }
 {
-    image_fits(clients, earlier, image_in(entry))
+    is_new(catalogue, &image.id) & is_built_in(image) & is_in_time(image)
+}
+
+fn fits(clients: &[Client], catalogue: &Catalogue, entry: &Entry) -> bool
+    ensures { (records : List Found) (images : List Image) (stored : List Stored) → Remembers records clients.now catalogue.now images → result ≡ entry_fits (built clients.now images stored) entry.now }
+{
+    image_fits(clients, catalogue, image_in(entry))
 }
 
 /// What entries make.
 #[derive(Drop)]
 pub struct Replayed {
     pub clients: Vec<Client>,
+    pub catalogue: Catalogue,
     /// The offset of the first record that doesn't fit.
     pub bad: Option<u64>,
 }
 
 // Raises the last id time of the entry's client.
-fn record_entry(alloc: Global, clients: &mut Vec<Client>, entry: &Entry) -> Result<(), NoMemory>
-    ensures { OnOk result (clients.new.items ≡ raise_last (id_in entry.now).client (id_in entry.now).time clients.old.items) }
+fn raise_client(alloc: Global, clients: &mut Vec<Client>, id: &BackupId) -> Result<(), NoMemory>
+    ensures { OnOk result (clients.new.items ≡ raise_last id.now.client id.now.time clients.old.items) }
 {
-    let id = id_in(entry);
     let place = place_of(clients, id.client.bytes());
     let client = Client::new(id.client.copy(alloc)?, id.time);
     make_room(clients)?;
@@ -109,19 +96,41 @@ fn record_entry(alloc: Global, clients: &mut Vec<Client>, entry: &Entry) -> Resu
     Ok(())
 }
 
+// Catalogues the entry's image.
+fn catalogue_entry(
+    alloc: Global,
+    catalogue: &mut Catalogue,
+    placed: &Placed,
+) -> Result<(), NoMemory>
+    ensures { OnOk result (Adds (id_in placed.now.entry) (record { from = placed.now.from; length = placed.now.size }) catalogue.old catalogue.new) }
+{
+    let extent = Extent {
+        from: placed.from,
+        length: placed.size,
+    };
+    catalogue.add(id_in(&placed.entry).copy(alloc)?, extent)
+}
+
 /// Replays entries from the state of a new vault on.
 pub fn replay(alloc: Global, entries: &[Placed]) -> Result<Replayed, NoMemory>
-    ensures { IfOk result (λ r. (records : List Found) → placed records ≡ entries.now → IsReplayed records r.clients.items r.bad) }
+    ensures { IfOk result (λ r. (records : List Found) → placed records ≡ entries.now → IsReplayed records r.clients.items r.catalogue r.bad) }
 {
     let mut clients = Vec::new(alloc);
-    for (index, placed) in entries.iter().enumerate() {
-        if !fits(&clients, &entries[..index], &placed.entry) {
+    let mut catalogue = Catalogue::new(alloc);
+    for placed in entries {
+        if !fits(&clients, &catalogue, &placed.entry) {
             return Ok(Replayed {
                 clients,
+                catalogue,
                 bad: Some(placed.at),
             });
         }
-        record_entry(alloc, &mut clients, &placed.entry)?;
+        raise_client(alloc, &mut clients, id_in(&placed.entry))?;
+        catalogue_entry(alloc, &mut catalogue, placed)?;
     }
-    Ok(Replayed { clients, bad: None })
+    Ok(Replayed {
+        clients,
+        catalogue,
+        bad: None,
+    })
 }

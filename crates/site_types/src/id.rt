@@ -30,6 +30,15 @@ impl BackupId {
         }
     }
 
+    pub fn copy(&self, alloc: Global) -> Result<BackupId, NoMemory>
+        ensures { IfOk result (λ i. i ≡ self.now) }
+    {
+        Ok(BackupId {
+            client: self.client.copy(alloc)?,
+            time: self.time,
+        })
+    }
+
     /// The id as it is written: the client's name, an underscore and the time.
     pub fn text(&self, alloc: Global) -> Result<Text, NoMemory>
         ensures { IfOk result (λ t. t ≡ id_text self.now) }

@@ -6,5 +6,5 @@ use Rattle.site_desk.proofs.ReplayLemmas.{entry_fits-image}
 use Rattle.site_desk.proofs.replay.fits.Goals as goal
 
 pub returns : goal.returns
-returns c images stored remembers =
-    c.image_fits.ensures images stored remembers ∙ ap (λ (w : WholeImage). image_fits (built c.args.clients.now images stored) w) c.image_in.ensures ∙ entry_fits-image (built c.args.clients.now images stored) c.args.entry.now
+returns c records images stored remembers =
+    c.image_fits.ensures records images stored remembers ∙ ap (λ (w : WholeImage). image_fits (built c.args.clients.now images stored) w) c.image_in.ensures ∙ entry_fits-image (built c.args.clients.now images stored) c.args.entry.now
