@@ -2,6 +2,7 @@
 use Rattle.std.proofs.Common.{◌≡◌, inl, inr, ⊎_elim, ℕ, ◌≤◌, List, length, sym, subst}
 use Rattle.std.specs.Prelude.{Ok, Err}
 use Rattle.site_types.specs.Limits.{payload_limit}
+use Rattle.site_types.specs.Requests.{takes_payload}
 use Rattle.site_types.specs.declared.answer.Answer.{Answer}
 use Rattle.site_types.specs.declared.answer.Answer.TheVariants.{OutOfMemory, BadRequest, TooMany, DiskFault, ReadFault, SendFault, ClockFault, NotAVault}
 use Rattle.site_types.specs.declared.request.WordFault.{WordFault}
@@ -16,7 +17,7 @@ use Rattle.desk_model.specs.Step.{step}
 use Rattle.site_desk.specs.Desk.{Answered, IsFaultOf}
 use Rattle.site_desk.specs.Stands.{opened}
 use Rattle.bp_cli.specs.Words.{spoken, IsSpoken}
-use Rattle.bp_cli.specs.Gather.{Gathers, IsPayload, IsUngathered}
+use Rattle.bp_cli.specs.Gather.{Gathers, IsGiven, IsUngathered}
 use Rattle.bp_cli.specs.Runs.{IsOfRequest, refusal_of, word_refusal_of}
 use Rattle.bp_cli.specs.Causes.{IsModels, IsCausedHere, Heard, IsCaused}
 use Rattle.bp_cli.specs.declared.gather.Gathered.{Gathered}
@@ -24,17 +25,17 @@ use Rattle.bp_cli.specs.declared.words.Spoken.{Spoken}
 
 module _ (asked : Spoken) (tells : Type 0) (state : State) (input input' : Input) (ticks ticks' : Ticks) where
   -- nothing was gathered
-  pub caused_ungathered : (a : Answer) → IsUngathered a input → IsCausedHere asked tells state input input' ticks ticks' a
+  pub caused_ungathered : (a : Answer) → IsUngathered (takes_payload asked.request) a input → IsCausedHere asked tells state input input' ticks ticks' a
   caused_ungathered OutOfMemory ungathered = tt
   caused_ungathered ReadFault ungathered = tt
   caused_ungathered ClockFault ungathered = tt
   caused_ungathered (TooMany kind count limit) ungathered = inl ungathered
   caused_ungathered _ ungathered = absurd ungathered
 
-  models : (a : Answer) (g : Gathered) (payload : List ℕ) → payload ≡ g.payload → Gathers asked.moment input input' ticks ticks' g → (tells → a ≡ (step state asked.request payload g.moment).0) → IsModels asked tells state input input' ticks ticks' a
+  models : (a : Answer) (g : Gathered) (payload : List ℕ) → payload ≡ g.payload → Gathers (takes_payload asked.request) asked.moment input input' ticks ticks' g → (tells → a ≡ (step state asked.request payload g.moment).0) → IsModels asked tells state input input' ticks ticks' a
   models a g payload same gathers is = record {
     payload = payload;
-    whole = subst (λ (x : List ℕ). IsPayload x input input') (sym same) gathers.payload;
+    given = subst (λ (x : List ℕ). IsGiven (takes_payload asked.request) x input input') (sym same) gathers.payload;
     short = subst (λ (x : List ℕ). length x ≤ payload_limit) (sym same) gathers.short;
     moment = g.moment;
     when = gathers.moment;
@@ -42,7 +43,7 @@ module _ (asked : Spoken) (tells : Type 0) (state : State) (input input' : Input
   }
 
   -- it was carried out, or refused by the desk
-  pub caused_stepped : (a : Answer) (g : Gathered) (payload : List ℕ) → payload ≡ g.payload → Gathers asked.moment input input' ticks ticks' g → (tells → Answered state asked.request payload g.moment a) → IsCausedHere asked tells state input input' ticks ticks' a
+  pub caused_stepped : (a : Answer) (g : Gathered) (payload : List ℕ) → payload ≡ g.payload → Gathers (takes_payload asked.request) asked.moment input input' ticks ticks' g → (tells → Answered state asked.request payload g.moment a) → IsCausedHere asked tells state input input' ticks ticks' a
   caused_stepped OutOfMemory g payload same gathers answered = tt
   caused_stepped DiskFault g payload same gathers answered = tt
   caused_stepped ReadFault g payload same gathers answered = tt
@@ -67,7 +68,7 @@ module _ (words : List (List ℕ)) (tells tells' : Type 0) (tell_still : tells �
   here = record { asks = record { asked = asked; words_ask = words_ask }; state = state; opens = opens }
 
   told : (a : Answer) → IsModels asked tells' state input input' ticks ticks' a → IsModels asked tells state input input' ticks ticks' a
-  told a m = record { payload = m.payload; whole = m.whole; short = m.short; moment = m.moment; when = m.when; is = λ t. m.is (tell_still t) }
+  told a m = record { payload = m.payload; given = m.given; short = m.short; moment = m.moment; when = m.when; is = λ t. m.is (tell_still t) }
 
   pub caused_opened : (a : Answer) → IsOfRequest a → IsCausedHere asked tells' state input input' ticks ticks' a → IsCaused words tells seen input input' ticks ticks' a
   caused_opened OutOfMemory of_request cause = tt

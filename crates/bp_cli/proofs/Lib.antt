@@ -1,4 +1,3 @@
-pub mod WordBounds
 pub mod AnswerLemmas
 pub mod StepLemmas
 pub mod Causing

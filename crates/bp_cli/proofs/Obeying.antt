@@ -1,6 +1,7 @@
 -- A request on an open vault.
-use Rattle.std.proofs.Common.{◌≡◌, ◌≢◌, ◌⊎◌, inl, inr, ⊎_elim, ℕ, ◌≤◌, List, length, refl, sym, ◌∙◌, ap, subst}
+use Rattle.std.proofs.Common.{◌≡◌, ◌≢◌, ◌⊎◌, inl, inr, ⊎_elim, ℕ, ◌≤◌, Bool, List, length, refl, sym, ◌∙◌, ap, subst}
 use Rattle.std.specs.Prelude.{Some}
+use Rattle.site_types.specs.Requests.{takes_payload}
 use Rattle.site_types.specs.declared.request.Request.{Request}
 use Rattle.site_types.specs.declared.answer.Answer.{Answer}
 use Rattle.site_types.specs.declared.answer.Answer.TheVariants.{OutOfMemory, BadRequest, DiskFault, SendFault, NotAVault}
@@ -13,7 +14,7 @@ use Rattle.desk_model.specs.State.{State, durable}
 use Rattle.desk_model.specs.Replay.{Mark, plain, memory, fault, Entry, answer_of}
 use Rattle.site_desk.specs.Desk.{Answered, Moved, reached}
 use Rattle.site_desk.specs.Stands.{stands, Standing, StandsFor, Between}
-use Rattle.bp_cli.specs.Gather.{Gathers, IsPayload, IsUngathered}
+use Rattle.bp_cli.specs.Gather.{Gathers, IsGiven, IsUngathered}
 use Rattle.bp_cli.specs.Runs.{refused, carried, IsOfRequest, EndsBy, Ends, Obeys}
 use Rattle.bp_cli.specs.declared.gather.Gathered.{Gathered}
 use Rattle.bp_cli.specs.declared.words.Spoken.{Spoken}
@@ -43,18 +44,18 @@ module _ (s : State) (r : Request) (payload : List ℕ) (moment : ℕ) where
   ended _ new d0 d1 standing moved between c left = (standing (λ z. absurd (cc z))).each c left ∙ ap (λ (x : State). Some (durable x)) moved
 
 -- it was carried out
-pub obeys_step : (s new : State) (asked : Spoken) (d0 d1 : Disk) (input input' : Input) (ticks ticks' : Ticks) (g : Gathered) (payload : List ℕ) (a : Answer) → payload ≡ g.payload → Gathers asked.moment input input' ticks ticks' g → Answered s asked.request payload g.moment a → (a ≢ DiskFault → Standing d1 new)
+pub obeys_step : (s new : State) (asked : Spoken) (d0 d1 : Disk) (input input' : Input) (ticks ticks' : Ticks) (g : Gathered) (payload : List ℕ) (a : Answer) → payload ≡ g.payload → Gathers (takes_payload asked.request) asked.moment input input' ticks ticks' g → Answered s asked.request payload g.moment a → (a ≢ DiskFault → Standing d1 new)
     → Moved s asked.request payload g.moment a new → Between s (reached s asked.request payload g.moment a) d0 d1 → Obeys s asked d0 d1 input input' ticks ticks' a
 obeys_step s new asked d0 d1 input input' ticks ticks' g payload a is gathers answered standing moved between = record {
   outcome = carried (entry_of s asked.request payload g.moment a);
-  obeyed = (refl, subst (λ (x : List ℕ). IsPayload x input input') (sym is) gathers.payload, subst (λ (x : List ℕ). length x ≤ payload_limit) (sym is) gathers.short, gathers.moment);
+  obeyed = (refl, subst (λ (x : List ℕ). IsGiven (takes_payload asked.request) x input input') (sym is) gathers.payload, subst (λ (x : List ℕ). length x ≤ payload_limit) (sym is) gathers.short, gathers.moment);
   is = marked s asked.request payload g.moment a answered;
   now = ended s asked.request payload g.moment a new d0 d1 standing moved between;
   during = weaker d0 d1 (λ c b. StandsFor s (reached s asked.request payload g.moment a) c × (b ≡ d0.sent)) (λ c b. ((stands c ≡ Some (durable s)) ⊎ Ends s (carried (entry_of s asked.request payload g.moment a)) c) × (b ≡ d0.sent)) (λ c b left. (before_or_after s asked.request payload g.moment a c left.0, left.1)) between.during;
 }
 
 -- nothing was
-pub obeys_refused : (s : State) (asked : Spoken) (d : Disk) (input input' : Input) (ticks ticks' : Ticks) (a : Answer) → IsUngathered a input → Standing d s → Obeys s asked d d input input' ticks ticks' a
+pub obeys_refused : (s : State) (asked : Spoken) (d : Disk) (input input' : Input) (ticks ticks' : Ticks) (a : Answer) → IsUngathered (takes_payload asked.request) a input → Standing d s → Obeys s asked d d input input' ticks ticks' a
 obeys_refused s asked d input input' ticks ticks' a ungathered standing = record {
   outcome = refused a;
   obeyed = ungathered;
@@ -63,11 +64,11 @@ obeys_refused s asked d input input' ticks ticks' a ungathered standing = record
   during = started d (λ c b. ((stands c ≡ Some (durable s)) ⊎ Ends s (refused a) c) × (b ≡ d.sent));
 }
 
-pub ungathered_of_request : (a : Answer) (input : Input) → IsUngathered a input → IsOfRequest a
-ungathered_of_request (BadRequest index) input ungathered = ungathered
-ungathered_of_request (NotAVault offset) input ungathered = ungathered
-ungathered_of_request SendFault input ungathered = ungathered
-ungathered_of_request _ input ungathered = tt
+pub ungathered_of_request : (takes : Bool) (a : Answer) (input : Input) → IsUngathered takes a input → IsOfRequest a
+ungathered_of_request takes (BadRequest index) input ungathered = ungathered
+ungathered_of_request takes (NotAVault offset) input ungathered = ungathered
+ungathered_of_request takes SendFault input ungathered = ungathered
+ungathered_of_request takes _ input ungathered = tt
 
 pub none_unsent : (a : Answer) → IsOfRequest a → a ≢ SendFault
 none_unsent a of_request is = subst IsOfRequest is of_request

@@ -26,7 +26,7 @@ asked_of : (words : List (List ℕ)) (asked : Spoken) (seen : Image) (input inpu
 asked_of words asked seen input input' ticks ticks' (refused OutOfMemory) words_ask obeyed = tt
 asked_of words asked seen input input' ticks ticks' (refused ReadFault) words_ask obeyed = tt
 asked_of words asked seen input input' ticks ticks' (refused ClockFault) words_ask obeyed = tt
-asked_of words asked seen input input' ticks ticks' (refused (TooMany kind count limit)) words_ask obeyed = obeyed
+asked_of words asked seen input input' ticks ticks' (refused (TooMany kind count limit)) words_ask obeyed = (asked, words_ask, obeyed)
 asked_of words asked seen input input' ticks ticks' (refused _) words_ask obeyed = absurd obeyed
 asked_of words asked seen input input' ticks ticks' (carried e) words_ask obeyed = record { asked = asked; words_ask = words_ask; request = obeyed.0; payload = obeyed.1; short = obeyed.2; moment = obeyed.3 }
 

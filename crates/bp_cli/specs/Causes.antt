@@ -2,6 +2,7 @@
 use Rattle.std.specs.Prelude.{◌≡◌, ◌⊎◌, ℕ, ◌≤◌, List, length, Ok, Err}
 use Rattle.site_types.specs.Answers.{number_of}
 use Rattle.site_types.specs.Limits.{payload_limit}
+use Rattle.site_types.specs.Requests.{takes_payload}
 use Rattle.site_types.specs.declared.answer.Answer.{Answer}
 use Rattle.site_types.specs.declared.answer.Answer.TheVariants.{OutOfMemory, BadRequest, TooMany, DiskFault, ReadFault, SendFault, ClockFault, NotAVault}
 use Rattle.vault_disk.specs.Disk.{Image}
@@ -11,14 +12,14 @@ use Rattle.desk_model.specs.State.{State}
 use Rattle.desk_model.specs.Step.{step}
 use Rattle.site_desk.specs.Stands.{opened}
 use Rattle.bp_cli.specs.Words.{spoken}
-use Rattle.bp_cli.specs.Gather.{IsPayload, IsMoment, IsTooLong}
+use Rattle.bp_cli.specs.Gather.{IsGiven, IsMoment, IsTooLong}
 use Rattle.bp_cli.specs.declared.words.Spoken.{Spoken}
 
--- The payload is the whole of the source and within its limit, the moment is the one that is named, or else one that the clock gave; and on a vault that
+-- The payload is the whole of the source and within its limit, or none where the request takes none; the moment is the one that is named, or else one that the clock gave; and on a vault that
 -- tells what it holds the answer is the model's, from this state.
 pub record IsModels (asked : Spoken) (tells : Type 0) (state : State) (input input' : Input) (ticks ticks' : Ticks) (a : Answer) : Type 0 where
   pub payload : List ℕ
-  pub whole : IsPayload payload input input'
+  pub given : IsGiven (takes_payload asked.request) payload input input'
   pub short : length payload ≤ payload_limit
   pub moment : ℕ
   pub when : IsMoment asked.moment moment ticks ticks'
@@ -30,7 +31,7 @@ IsCausedHere asked tells state input input' ticks ticks' OutOfMemory = Unit {0}
 IsCausedHere asked tells state input input' ticks ticks' DiskFault = Unit {0}
 IsCausedHere asked tells state input input' ticks ticks' ReadFault = Unit {0}
 IsCausedHere asked tells state input input' ticks ticks' ClockFault = Unit {0}
-IsCausedHere asked tells state input input' ticks ticks' (TooMany kind count limit) = IsTooLong kind count limit input ⊎ IsModels asked tells state input input' ticks ticks' (TooMany kind count limit)
+IsCausedHere asked tells state input input' ticks ticks' (TooMany kind count limit) = IsTooLong (takes_payload asked.request) kind count limit input ⊎ IsModels asked tells state input input' ticks ticks' (TooMany kind count limit)
 IsCausedHere asked tells state input input' ticks ticks' a = IsModels asked tells state input input' ticks ticks' a
 
 -- the words ask for something

@@ -1,5 +1,5 @@
 -- What a request is given: its payload, and the moment at which it is carried out.
-use Rattle.std.specs.Prelude.{◌≡◌, ℕ, ◌+◌, ◌≤◌, ◌<◌, List, [], ◌∷◌, ◌++◌, length, codes, Option, Some, None}
+use Rattle.std.specs.Prelude.{◌≡◌, ℕ, ◌+◌, ◌≤◌, ◌<◌, Bool, true, false, List, [], ◌∷◌, ◌++◌, length, codes, Option, Some, None}
 use Rattle.site_types.specs.declared.answer.Answer.{Answer}
 use Rattle.site_types.specs.declared.answer.Answer.TheVariants.{OutOfMemory, TooMany, ReadFault, ClockFault}
 use Rattle.vault_disk.specs.Input.{Input}
@@ -12,6 +12,11 @@ pub record IsPayload (payload : List ℕ) (old new : Input) : Type 0 where
   pub whole : old.tells → payload ≡ old.left
   pub taken : old.tells → new.left ≡ []
 
+-- what a request is given that takes a payload, and what one that takes none, for which the source is left as it is
+abbrev pub IsGiven : Bool → List ℕ → Input → Input → Type 0
+IsGiven true payload old new = IsPayload payload old new
+IsGiven false payload old new = (payload ≡ []) × (old.tells → new.left ≡ old.left)
+
 -- the moment is the one that the words name, or else one that the clock gave
 abbrev pub IsMoment : Option ℕ → ℕ → Ticks → Ticks → Type 0
 IsMoment (Some named) moment old new = moment ≡ named
@@ -21,8 +26,9 @@ abbrev pub IsLimited : Option ℕ → Type 0
 IsLimited (Some moment) = moment ≤ last_moment
 IsLimited None = Unit {0}
 
--- more is left than a payload may have
-pub record IsTooLong (kind : List ℕ) (count limit : ℕ) (old : Input) : Type 0 where
+-- the request takes a payload, and more is left than a payload may have
+pub record IsTooLong (takes : Bool) (kind : List ℕ) (count limit : ℕ) (old : Input) : Type 0 where
+  pub takes_it : takes ≡ true
   pub kind_is : kind ≡ codes "bytes"
   pub count_is : count ≡ payload_limit + 1
   pub limit_is : limit ≡ payload_limit
@@ -34,15 +40,15 @@ IsTooLongOr (TooMany kind count limit) = (kind ≡ codes "bytes") × (count ≡ 
 IsTooLongOr _ = ⊥
 
 -- why nothing was gathered
-abbrev pub IsUngathered : Answer → Input → Type 0
-IsUngathered OutOfMemory old = Unit {0}
-IsUngathered ReadFault old = Unit {0}
-IsUngathered ClockFault old = Unit {0}
-IsUngathered (TooMany kind count limit) old = IsTooLong kind count limit old
-IsUngathered _ old = ⊥
+abbrev pub IsUngathered : Bool → Answer → Input → Type 0
+IsUngathered takes OutOfMemory old = Unit {0}
+IsUngathered takes ReadFault old = Unit {0}
+IsUngathered takes ClockFault old = Unit {0}
+IsUngathered takes (TooMany kind count limit) old = IsTooLong takes kind count limit old
+IsUngathered takes _ old = ⊥
 
-pub record Gathers (named : Option ℕ) (input input' : Input) (ticks ticks' : Ticks) (g : Gathered) : Type 0 where
-  pub payload : IsPayload g.payload input input'
+pub record Gathers (takes : Bool) (named : Option ℕ) (input input' : Input) (ticks ticks' : Ticks) (g : Gathered) : Type 0 where
+  pub payload : IsGiven takes g.payload input input'
   pub short : length g.payload ≤ payload_limit
   pub moment : IsMoment named g.moment ticks ticks'
   pub limit : g.moment ≤ last_moment

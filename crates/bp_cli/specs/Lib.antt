@@ -1,5 +1,5 @@
 pub mod Words
-pub mod Payload
 pub mod Gather
+pub mod Payload
 pub mod Causes
 pub mod Runs

@@ -1,6 +1,8 @@
 -- Taking a payload from a source.
-use Rattle.std.specs.Prelude.{◌≡◌, ℕ, ◌<◌, ◌≤◌, List, [], length}
+use Rattle.std.specs.Prelude.{◌≡◌, ℕ, ◌<◌, ◌≤◌, Bool, true, List, [], length}
 use Rattle.site_types.specs.Limits.{payload_limit}
+use Rattle.vault_disk.specs.Input.{Input}
+use Rattle.bp_cli.specs.Gather.{IsGiven}
 use Rattle.bp_cli.specs.declared.payload.Taken.{Taken}
 use Rattle.bp_cli.specs.declared.payload.Taken.TheVariants.{Whole, TooLong, Failed, NoMemory}
 
@@ -15,3 +17,10 @@ IsTaken left NoMemory rest = Unit {0}
 abbrev pub IsShort : Taken → Type 0
 IsShort (Whole bytes) = length bytes ≤ payload_limit
 IsShort _ = Unit {0}
+
+-- what was taken for a request that takes a payload, or for one that takes none
+abbrev pub IsTakenFor : Bool → Input → Taken → Input → Type 0
+IsTakenFor takes old (Whole bytes) new = IsGiven takes bytes old new
+IsTakenFor takes old TooLong new = (takes ≡ true) × (old.tells → payload_limit < length old.left)
+IsTakenFor takes old Failed new = Unit {0}
+IsTakenFor takes old NoMemory new = Unit {0}

@@ -1,6 +1,7 @@
 -- A run of the program: what is asked, what is answered, and what a stop leaves.
 use Rattle.std.specs.Prelude.{◌≡◌, ◌≢◌, ◌⊎◌, ℕ, ◌≤◌, List, ◌++◌, length, Some, Result, Ok, Err, MatchResult}
 use Rattle.site_types.specs.Answers.{number_of, text_of, NeedsMemory}
+use Rattle.site_types.specs.Requests.{takes_payload}
 use Rattle.site_types.specs.declared.answer.Answer.{Answer}
 use Rattle.site_types.specs.declared.answer.Answer.TheVariants.{OutOfMemory, BadRequest, TooMany, DiskFault, ReadFault, SendFault, ClockFault, NotAVault}
 use Rattle.site_types.specs.declared.request.WordFault.{WordFault}
@@ -16,7 +17,7 @@ use Rattle.desk_model.specs.State.{State, durable}
 use Rattle.desk_model.specs.Replay.{Mark, plain, memory, fault, Entry, stepped, answer_of}
 use Rattle.site_desk.specs.Stands.{opened, stands, StandsFor}
 use Rattle.bp_cli.specs.Words.{spoken}
-use Rattle.bp_cli.specs.Gather.{IsPayload, IsMoment, IsTooLong, IsUngathered}
+use Rattle.bp_cli.specs.Gather.{IsGiven, IsMoment, IsTooLong, IsUngathered}
 use Rattle.bp_cli.specs.declared.words.Spoken.{Spoken}
 
 -- nothing was carried out, or one request with its payload at a moment
@@ -29,13 +30,13 @@ abbrev pub said : State → Outcome → Answer
 said s (refused answer) = answer
 said s (carried e) = answer_of s e
 
--- The request is what the words ask for, its payload is the whole of the source and within its limit, and it is carried out at the moment that the words
+-- The request is what the words ask for, its payload is the whole of the source and within its limit, or none where it takes none, and it is carried out at the moment that the words
 -- name, or else at one that the clock gave.
 pub record IsCarried (words : List (List ℕ)) (input input' : Input) (ticks ticks' : Ticks) (e : Entry) : Type 0 where
   pub asked : Spoken
   pub words_ask : spoken words ≡ Ok asked
   pub request : e.request ≡ asked.request
-  pub payload : IsPayload e.payload input input'
+  pub payload : IsGiven (takes_payload asked.request) e.payload input input'
   pub short : length e.payload ≤ payload_limit
   pub moment : IsMoment asked.moment e.moment ticks ticks'
 
@@ -44,7 +45,7 @@ pub record IsCarried (words : List (List ℕ)) (input input' : Input) (ticks tic
 abbrev pub IsAsked : List (List ℕ) → Image → Input → Input → Ticks → Ticks → Outcome → Type 0
 IsAsked words seen input input' ticks ticks' (refused OutOfMemory) = Unit {0}
 IsAsked words seen input input' ticks ticks' (refused (BadRequest index)) = spoken words ≡ Err index
-IsAsked words seen input input' ticks ticks' (refused (TooMany kind count limit)) = IsTooLong kind count limit input
+IsAsked words seen input input' ticks ticks' (refused (TooMany kind count limit)) = (asked : Spoken) × (spoken words ≡ Ok asked) × IsTooLong (takes_payload asked.request) kind count limit input
 IsAsked words seen input input' ticks ticks' (refused DiskFault) = Unit {0}
 IsAsked words seen input input' ticks ticks' (refused ReadFault) = Unit {0}
 IsAsked words seen input input' ticks ticks' (refused ClockFault) = Unit {0}
@@ -54,8 +55,8 @@ IsAsked words seen input input' ticks ticks' (carried e) = IsCarried words input
 
 -- a request on an open vault
 abbrev pub IsObeyed : Spoken → Input → Input → Ticks → Ticks → Outcome → Type 0
-IsObeyed asked input input' ticks ticks' (refused answer) = IsUngathered answer input
-IsObeyed asked input input' ticks ticks' (carried e) = (e.request ≡ asked.request) × IsPayload e.payload input input' × (length e.payload ≤ payload_limit) × IsMoment asked.moment e.moment ticks ticks'
+IsObeyed asked input input' ticks ticks' (refused answer) = IsUngathered (takes_payload asked.request) answer input
+IsObeyed asked input input' ticks ticks' (carried e) = (e.request ≡ asked.request) × IsGiven (takes_payload asked.request) e.payload input input' × (length e.payload ≤ payload_limit) × IsMoment asked.moment e.moment ticks ticks'
 
 -- what is answered to words that ask for nothing
 abbrev pub word_refusal_of : WordFault → Answer

@@ -5,7 +5,7 @@ ghost use Rattle.vault_disk.specs.Input.{IsSameInput};
 ghost use Rattle.site_types.specs.Limits.{last_moment, payload_limit};
 ghost use Rattle.bp_cli.specs.Gather.{Gathers, IsLimited, IsMoment, IsTooLongOr, IsUngathered};
 
-use crate::payload::{Taken, take_payload};
+use crate::payload::{Taken, take_given};
 use site_types::{Answer, NoMemory, Text};
 use std::alloc::Global;
 use vault_disk::{Clock, Failed, Source};
@@ -50,20 +50,22 @@ fn moment_at<C: Clock>(named: Option<u64>, clock: &mut C) -> Result<u64, Failed>
     }
 }
 
-/// Takes the payload from a source, and finds the moment: the one that is named, or else that of the clock.
+/// Takes the payload from a source, where the request takes one, and finds the moment: the one that is named, or else that of the
+/// clock.
 pub fn gather<S: Source, C: Clock>(
     alloc: Global,
+    takes: bool,
     named: Option<u64>,
     source: &mut S,
     clock: &mut C,
 ) -> Result<Gathered, Answer>
     requires limited { IsLimited named }
-    ensures gathered { IfOk result (λ g. Gathers named (S.input source.old) (S.input source.new) (C.ticks clock.old) (C.ticks clock.new) g) }
-    ensures refused { IfErr result (λ a. IsUngathered a (S.input source.old)) }
+    ensures gathered { IfOk result (λ g. Gathers takes named (S.input source.old) (S.input source.new) (C.ticks clock.old) (C.ticks clock.new) g) }
+    ensures refused { IfErr result (λ a. IsUngathered takes a (S.input source.old)) }
     ensures read_fault { IfErr result (λ a. a ≡ Answer.ReadFault → Rose (S.input source.old).faults (S.input source.new).faults) }
     ensures clock_fault { IfErr result (λ a. a ≡ Answer.ClockFault → Rose (C.ticks clock.old).faults (C.ticks clock.new).faults) }
 {
-    let payload = match take_payload(alloc, source) {
+    let payload = match take_given(alloc, takes, source) {
         Taken::Whole(payload) => payload,
         Taken::TooLong => return Err(too_long(alloc)),
         Taken::Failed => return Err(Answer::ReadFault),

@@ -34,7 +34,13 @@ fn obey<V: Vault, S: Source, C: Clock>(
     ensures read_fault { result ≡ Answer.ReadFault → Rose (S.input source.old).faults (S.input source.new).faults }
     ensures clock_fault { result ≡ Answer.ClockFault → Rose (C.ticks clock.old).faults (C.ticks clock.new).faults }
 {
-    match gather(alloc, spoken.moment, source, clock) {
+    match gather(
+        alloc,
+        spoken.request.takes_payload(),
+        spoken.moment,
+        source,
+        clock,
+    ) {
         Ok(Gathered { payload, moment }) => {
             desk.step(alloc, &spoken.request, payload.bytes(), moment)
         }

@@ -3,7 +3,7 @@ ghost use Rattle.std.specs.Prelude.{◌≡◌, ◌≤◌, ◌<◌, ◌++◌, [],
 ghost use Rattle.vault_disk.specs.Input.{IsSameInput};
 ghost use Rattle.vault_disk.specs.Steps.{Rose};
 ghost use Rattle.site_types.specs.Limits.{payload_limit};
-ghost use Rattle.bp_cli.specs.Payload.{IsTaken, IsShort};
+ghost use Rattle.bp_cli.specs.Payload.{IsTaken, IsTakenFor, IsShort};
 
 use site_types::{NoMemory, Text};
 use std::alloc::Global;
@@ -66,4 +66,17 @@ pub fn take_payload<S: Source>(alloc: Global, source: &mut S) -> Taken
         Ok(mut block) => take_blocks(source, Vec::new(alloc), &mut block),
         Err(_) => Taken::NoMemory,
     }
+}
+
+/// Takes the payload of a request from a source; for one that takes none it leaves the source as it is.
+pub fn take_given<S: Source>(alloc: Global, takes: bool, source: &mut S) -> Taken
+    ensures taken { IsTakenFor takes (S.input source.old) result (S.input source.new) }
+    ensures short { IsShort result }
+    ensures same { IsSameInput (S.input source.old) (S.input source.new) }
+    ensures failed { result ≡ Taken.Failed → Rose (S.input source.old).faults (S.input source.new).faults }
+{
+    if takes {
+        return take_payload(alloc, source);
+    }
+    Taken::Whole(Text::from_vec(Vec::new(alloc)))
 }

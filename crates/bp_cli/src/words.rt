@@ -40,7 +40,7 @@ fn read_at(alloc: Global, moment: u64, words: &[Text]) -> Result<Spoken, WordFau
             request,
         }),
         Err(WordFault::Bad { index }) => Err(WordFault::Bad {
-            index: index.min(words.len() as u64) + 1,
+            index: index + 1,
         }),
         Err(WordFault::NoMemory) => Err(WordFault::NoMemory),
     }
