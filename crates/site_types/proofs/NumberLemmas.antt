@@ -36,15 +36,3 @@ number_up_to-none limit text small unspelled = at (nat_le (digits_value 10 text)
 
 pub IsUtf8-decimal : (n : ℕ) (text : List ℕ) → n < 2 ^ 64 → text ≡ decimal n → IsUtf8 text
 IsUtf8-decimal n text small is = subst IsUtf8 (sym is) (IsUtf8-from_ascii (decimal n) (IsAscii-decimal n small))
-
-some_same : (a b : ℕ) → Some a ≡ Some b → a ≡ b
-some_same a b is = cc
-
-chosen_within : (a : Bool) (k n limit : ℕ) (b : Bool) → (a ≡ true → k ≤ limit) → (if a && b then Some k else None) ≡ Some n → n ≤ limit
-chosen_within true k n limit true le is = omega (arith, le refl, some_same k n is)
-chosen_within true k n limit false le is = absurd (cc is)
-chosen_within false k n limit b le is = absurd (cc is)
-
--- the number is at most the limit
-pub number_up_to-within : (limit n : ℕ) (text : List ℕ) → number_up_to limit text ≡ Some n → n ≤ limit
-number_up_to-within limit n text is = chosen_within (nat_le (digits_value 10 text) limit) (digits_value 10 text) n limit (bytes_eq text (decimal (digits_value 10 text))) (λ le. grind (arith, nat_tests)) is
