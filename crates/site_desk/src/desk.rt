@@ -146,7 +146,7 @@ impl<V: Vault> Desk<V> {
                 Answer::OutOfMemory
             }
             Recorded::Fault => {
-                self.stopped = true;
+                self.stopped = true; // The record may be there or not.
                 Answer::DiskFault
             }
         }
