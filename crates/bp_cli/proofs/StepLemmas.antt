@@ -1,12 +1,11 @@
 -- What a step answers.
-use Rattle.std.proofs.Common.{◌≡◌, ℕ, List, [], ◌∷◌, Bool, true, false, refl, sym, subst}
-use Rattle.std.specs.Prelude.{Option, Some, None, is_none, nat_lt, codes}
+use Rattle.std.proofs.Common.{◌≡◌, ℕ, List, refl}
+use Rattle.std.specs.Prelude.{Option, Some, None}
 use Rattle.site_types.specs.Answers.{NeedsMemory}
 use Rattle.site_types.specs.declared.request.Request.{Request}
 use Rattle.site_types.specs.declared.request.Request.TheVariants.{Backup, Restore}
 use Rattle.site_types.specs.declared.answer.Answer.{Answer}
 use Rattle.site_types.specs.declared.answer.Answer.TheVariants.{Done, BadRequest, SendFault, NotAVault}
-use Rattle.site_types.specs.Limits.{last_moment}
 use Rattle.desk_model.specs.State.{State, image_named}
 use Rattle.desk_model.specs.Step.{step, unless_refused, first_refusal, backup_refusals, backup_done, restore_refusals, bytes_of}
 use Rattle.site_desk.specs.Desk.{IsOfStep}

@@ -39,9 +39,7 @@ fn read_at(alloc: Global, moment: u64, words: &[Text]) -> Result<Spoken, WordFau
             moment: Some(moment),
             request,
         }),
-        Err(WordFault::Bad { index }) => Err(WordFault::Bad {
-            index: index + 1,
-        }),
+        Err(WordFault::Bad { index }) => Err(WordFault::Bad { index: index + 1 }),
         Err(WordFault::NoMemory) => Err(WordFault::NoMemory),
     }
 }
