@@ -1,2 +1,3 @@
+pub mod CalendarLemmas
 pub mod NumberLemmas
 pub mod WordLemmas

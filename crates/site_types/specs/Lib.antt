@@ -2,6 +2,8 @@ pub mod Names
 pub mod Numbers
 pub mod Limits
 pub mod Dates
+pub mod Weekdays
+pub mod Calendars
 pub mod Ids
 pub mod Answers
 pub mod Requests

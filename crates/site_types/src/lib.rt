@@ -3,6 +3,7 @@
 
 mod answer;
 mod calendar;
+mod calendar_word;
 mod id;
 mod image;
 mod lifecycle;
@@ -14,11 +15,13 @@ mod request;
 mod schedule;
 mod text;
 mod unit;
+mod weekday;
 mod window;
 mod wording;
 
 pub use answer::Answer;
 pub use calendar::{CalendarItem, Day};
+pub use calendar_word::read_calendar;
 pub use id::BackupId;
 pub use image::{Base, CopyRecord, Expiry, ImageRecord, Kind};
 pub use lifecycle::{OpState, Operation, Retention};
