@@ -1,3 +1,6 @@
 pub mod CalendarLemmas
+pub mod DigitLemmas
+pub mod WindowLemmas
+pub mod JoinedLemmas
 pub mod NumberLemmas
 pub mod WordLemmas

@@ -1,11 +1,11 @@
 -- Calendars, as they are written.
 use Rattle.std.specs.Prelude.{◌≡◌, refl, ℕ, ◌-◌, Bool, true, false, ◌&&◌, ◌==◌, nat_le, if◌then◌else◌, List, [], ◌∷◌, length, take, drop, codes, Option, Some, None, option_map}
-use Rattle.std.specs.Char.{is_ascii_digit}
-use Rattle.std.specs.List.{list_all, slice_index, slice_range, slice_split}
+use Rattle.std.specs.List.{slice_index, slice_range}
 use Rattle.std.specs.Option.{option_and_then}
 use Rattle.std.specs.Str.{bytes_eq}
-use Rattle.std.specs.Str.Parse.{digits_value}
 use Rattle.site_types.specs.Dates.{is_date}
+use Rattle.site_types.specs.Digits.{digits_of}
+use Rattle.site_types.specs.Joined.{joined_of}
 use Rattle.site_types.specs.Numbers.{number_up_to}
 use Rattle.site_types.specs.Weekdays.{weekday_named}
 use Rattle.site_types.specs.declared.calendar.Day.{Day}
@@ -25,10 +25,6 @@ weekday_item_of (c ∷ name) = option_and_then (λ week. option_map (λ day. Wee
 abbrev pub month_day_of : List ℕ → Option ℕ
 month_day_of text = if bytes_eq text (codes "L") then Some 0 else option_and_then (λ day. if nat_le 1 day then Some day else None) (number_up_to 31 text)
 
--- the number of a text that has so many characters, each a decimal digit
-abbrev pub digits_of : ℕ → List ℕ → Option ℕ
-digits_of count text = if length text == count && list_all is_ascii_digit text then Some (digits_value 10 text) else None
-
 -- the date of this year, month and day, by the answer to whether it is one
 abbrev pub date_if : (year month day : ℕ) → (b : Bool) → is_date year month day ≡ b → Option Day
 date_if year month day false is = None
@@ -47,15 +43,6 @@ abbrev pub calendar_item_of : List ℕ → Option CalendarItem
 calendar_item_of [] = None
 calendar_item_of (c ∷ rest) = if c == 100 then option_map Date (day_of rest) else (if c == 120 then option_map Exclude (day_of rest) else (if c == 119 then weekday_item_of rest else (if c == 109 then option_map MonthDay (month_day_of rest) else None)))
 
--- the items that texts spell, where each spells one
-abbrev pub items_of : List (List ℕ) → Option (List CalendarItem)
-items_of [] = Some []
-items_of (text ∷ texts) = option_and_then (λ item. option_map (λ items. item ∷ items) (items_of texts)) (calendar_item_of text)
-
--- a plus sign
-abbrev pub is_plus : ℕ → Bool
-is_plus c = c == 43
-
 -- the calendar that a text spells: 1 to 64 items, joined by plus signs
 abbrev pub calendar_of : List ℕ → Option (List CalendarItem)
-calendar_of text = if nat_le (length (slice_split is_plus text)) 64 then items_of (slice_split is_plus text) else None
+calendar_of text = joined_of calendar_item_of 64 text

@@ -1,9 +1,8 @@
 // Reading calendars.
-ghost use Rattle.std.specs.Prelude.{◌≡◌, ◌≤◌, length, IfOk};
-ghost use Rattle.std.specs.List.{list_all};
-ghost use Rattle.std.specs.Char.{is_ascii_digit};
-ghost use Rattle.site_types.specs.Calendars.{week_of, weekday_item_of, month_day_of, digits_of, date_of, day_of, calendar_item_of, calendar_of};
+ghost use Rattle.std.specs.Prelude.{◌≡◌, IfOk};
+ghost use Rattle.site_types.specs.Calendars.{week_of, weekday_item_of, month_day_of, date_of, day_of, calendar_item_of, calendar_of};
 
+use crate::digits::read_digits;
 use crate::weekday::read_weekday;
 use crate::{CalendarItem, Day, ListOf, NoMemory, read_number};
 use std::alloc::Global;
@@ -91,24 +90,6 @@ fn day_named(year: u16, month: u16, day: u16) -> Option<Day>
     ensures { result ≡ date_of year month day }
 {
     Day::new(year, u8::try_from(month).ok()?, u8::try_from(day).ok()?)
-}
-
-// The number that one to four decimal digits spell.
-fn read_digits(text: &[u8]) -> Option<u16>
-    requires some { 1 ≤ length text.now }
-    requires few { length text.now ≤ 4 }
-    ensures { result ≡ digits_of (length text.now) text.now }
-{
-    if !are_digits(text) {
-        return None;
-    }
-    std::str::from_utf8(text).ok()?.parse().ok()
-}
-
-fn are_digits(text: &[u8]) -> bool
-    ensures { result ≡ list_all is_ascii_digit text.now }
-{
-    text.iter().all(u8::is_ascii_digit)
 }
 
 #[cfg(test)]

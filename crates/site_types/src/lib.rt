@@ -4,6 +4,7 @@
 mod answer;
 mod calendar;
 mod calendar_word;
+mod digits;
 mod id;
 mod image;
 mod lifecycle;
@@ -17,6 +18,7 @@ mod text;
 mod unit;
 mod weekday;
 mod window;
+mod window_word;
 mod wording;
 
 pub use answer::Answer;
@@ -33,6 +35,7 @@ pub use schedule::{Mode, PolicyType, Schedule};
 pub use text::Text;
 pub use unit::Unit;
 pub use window::{Window, Windows};
+pub use window_word::read_windows;
 
 /// No memory was left.
 pub type NoMemory = std::alloc::AllocError;

@@ -3,8 +3,8 @@ use Rattle.std.specs.Prelude.{Result}
 use Rattle.std.specs.Char.{is_ascii_digit}
 use Rattle.std.specs.List.{list_all}
 use Rattle.std.specs.Result.{result_ok}
-use Rattle.site_types.proofs.CalendarLemmas.{IsUtf8-digits, digits-parsed, digits_of-digits}
-use Rattle.site_types.proofs.calendar_word.read_digits.Goals as goal
+use Rattle.site_types.proofs.DigitLemmas.{IsUtf8-digits, digits-parsed, digits_of-digits}
+use Rattle.site_types.proofs.digits.read_digits.Goals as goal
 
 pub returns-in_err-ok : goal.returns-in_err-ok
 returns-in_err-ok c =
