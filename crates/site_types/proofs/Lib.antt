@@ -1,2 +1,6 @@
 pub mod IdLemmas
+pub mod CalendarLemmas
+pub mod DigitLemmas
+pub mod WindowLemmas
+pub mod JoinedLemmas
 pub mod NumberLemmas

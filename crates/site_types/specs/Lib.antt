@@ -2,6 +2,11 @@ pub mod Names
 pub mod Numbers
 pub mod Limits
 pub mod Dates
+pub mod Digits
+pub mod Weekdays
+pub mod Joined
+pub mod Calendars
+pub mod WindowWords
 pub mod Ids
 pub mod Answers
 pub mod Requests

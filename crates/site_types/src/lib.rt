@@ -3,6 +3,8 @@
 
 mod answer;
 mod calendar;
+mod calendar_word;
+mod digits;
 mod id;
 mod image;
 mod keys;
@@ -16,11 +18,14 @@ mod request;
 mod schedule;
 mod text;
 mod unit;
+mod weekday;
 mod window;
+mod window_word;
 mod wording;
 
 pub use answer::Answer;
 pub use calendar::{CalendarItem, Day};
+pub use calendar_word::read_calendar;
 pub use id::BackupId;
 pub use image::{Base, CopyRecord, Expiry, ImageRecord, Kind};
 pub use lifecycle::{OpState, Operation, Retention};
@@ -33,6 +38,7 @@ pub use schedule::{Mode, PolicyType, Schedule};
 pub use text::Text;
 pub use unit::Unit;
 pub use window::{Window, Windows};
+pub use window_word::read_windows;
 
 /// No memory was left.
 pub type NoMemory = std::alloc::AllocError;

@@ -1,0 +1,7 @@
+-- Names of weekdays.
+use Rattle.std.specs.Prelude.{ℕ, if◌then◌else◌, List, codes, Option, Some, None}
+use Rattle.std.specs.Str.{bytes_eq}
+
+-- the weekday of a name of three letters; 0 is Sunday
+abbrev pub weekday_named : List ℕ → Option ℕ
+weekday_named name = if bytes_eq name (codes "sun") then Some 0 else (if bytes_eq name (codes "mon") then Some 1 else (if bytes_eq name (codes "tue") then Some 2 else (if bytes_eq name (codes "wed") then Some 3 else (if bytes_eq name (codes "thu") then Some 4 else (if bytes_eq name (codes "fri") then Some 5 else (if bytes_eq name (codes "sat") then Some 6 else None))))))

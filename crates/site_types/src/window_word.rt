@@ -1,0 +1,183 @@
+// Reading windows.
+ghost use Rattle.std.specs.Prelude.{◌≡◌, IfOk};
+ghost use Rattle.site_types.specs.Joined.{joined_of};
+ghost use Rattle.site_types.specs.WindowWords.{second_at, second_of, window_at, window_of, windows_of};
+
+use crate::digits::read_digits;
+use crate::weekday::read_weekday;
+use crate::{ListOf, NoMemory, Window, Windows, read_number};
+use std::alloc::Global;
+
+const MOST_WINDOWS: usize = 28;
+
+/// The windows of a schedule or an operation: `always`, `none`, which lists none of them, or 1 to 28 windows joined by `+`.
+/// None exactly where the text spells none of these.
+pub fn read_windows(alloc: Global, text: &[u8]) -> Result<Option<Windows>, NoMemory>
+    ensures { IfOk result (λ o. o ≡ windows_of text.now) }
+{
+    if text == b"always".as_slice() {
+        return Ok(Some(Windows::Always));
+    }
+    if text == b"none".as_slice() {
+        return Ok(Some(Windows::Listed(ListOf::new(alloc))));
+    }
+    match read_list(alloc, text)? {
+        Some(windows) => Ok(Some(Windows::Listed(windows))),
+        None => Ok(None),
+    }
+}
+
+fn read_list(alloc: Global, text: &[u8]) -> Result<Option<ListOf<Window>>, NoMemory>
+    ensures { IfOk result (λ o. o ≡ joined_of window_of 28 text.now) }
+{
+    let mut windows = Vec::new(alloc);
+    for part in text.split(|byte| *byte == b'+') {
+        if windows.len() == MOST_WINDOWS {
+            return Ok(None);
+        }
+        let Some(window) = Window::read(part) else {
+            return Ok(None);
+        };
+        windows.push(window)?;
+    }
+    Ok(Some(ListOf::from_vec(windows)))
+}
+
+impl Window {
+    /// A window, as `fri/20:00:00/36000`. None exactly where the text spells none.
+    pub fn read(text: &[u8]) -> Option<Window>
+        ensures { result ≡ window_of text.now }
+    {
+        if text.len() < 13 || text[3] != b'/' || text[12] != b'/' {
+            return None;
+        }
+        window_at(
+            read_weekday(&text[..3])?,
+            read_second(&text[4..12])?,
+            read_number(&text[13..], 604_800)?,
+        )
+    }
+}
+
+fn window_at(weekday: u8, start: u32, length: u64) -> Option<Window>
+    ensures { result ≡ window_at weekday start length }
+{
+    Window::new(weekday, start, u32::try_from(length).ok()?)
+}
+
+// The second of the day at a time of two digits each for hours, minutes and seconds.
+fn read_second(text: &[u8]) -> Option<u32>
+    ensures { result ≡ second_of text.now }
+{
+    if text.len() != 8 || text[2] != b':' || text[5] != b':' {
+        return None;
+    }
+    second_at(
+        read_digits(&text[..2])?,
+        read_digits(&text[3..5])?,
+        read_digits(&text[6..])?,
+    )
+}
+
+fn second_at(hour: u16, minute: u16, second: u16) -> Option<u32>
+    ensures { result ≡ second_at hour minute second }
+{
+    if hour < 24 && minute < 60 && second < 60 {
+        return Some(u32::from(hour) * 3600 + u32::from(minute) * 60 + u32::from(second));
+    }
+    None
+}
+
+#[cfg(test)]
+mod tests {
+    use super::*;
+    use std::test::*;
+
+    // Texts, and the windows that they spell.
+    const WINDOWS: [(&str, Option<&str>); 24] = [
+        (
+            "fri/20:00:00/36000",
+            Some("Window { weekday: 5, start: 72000, length: 36000 }"),
+        ),
+        (
+            "sun/00:00:00/1",
+            Some("Window { weekday: 0, start: 0, length: 1 }"),
+        ),
+        (
+            "sat/23:59:59/604800",
+            Some("Window { weekday: 6, start: 86399, length: 604800 }"),
+        ),
+        ("", None),
+        ("mon", None),
+        ("mon/01:00:00", None),
+        ("mon/01:00:00/", None),
+        ("mon/01:00:00/0", None),
+        ("mon/01:00:00/01", None),
+        ("mon/01:00:00/+1", None),
+        ("mon/01:00:00/604801", None),
+        ("mon/01:00:00/18446744073709551616", None),
+        ("mon/24:00:00/60", None),
+        ("mon/01:60:00/60", None),
+        ("mon/01:00:60/60", None),
+        ("mon/1:00:00/60", None),
+        ("mon/01:00/60", None),
+        ("mon/01-00-00/60", None),
+        ("mon/+1:00:00/60", None),
+        ("mon 01:00:00/60", None),
+        ("mon/01:00:00 60", None),
+        ("Mon/01:00:00/60", None),
+        ("day/01:00:00/60", None),
+        ("mon/01:00:00/60/", None),
+    ];
+
+    fn said(alloc: Global, text: &str) -> Result<Option<String>, Fail> {
+        match Window::read(text.as_bytes()) {
+            Some(window) => Ok(Some(format!(in alloc; "{window:?}")?)),
+            None => Ok(None),
+        }
+    }
+
+    #[test]
+    fn windows_are_what_they_spell(rt: HostRuntime) -> Result<(), Fail> {
+        for (text, wanted) in WINDOWS {
+            let said = said(rt.alloc(), text)?;
+            assert_eq!(rt; said.as_deref(), wanted, "at {text}");
+        }
+        Ok(())
+    }
+
+    // The windows that are listed, `always` as 99 of them, where the text spells some.
+    fn count(alloc: Global, text: &[u8]) -> Result<Option<usize>, NoMemory> {
+        match read_windows(alloc, text)? {
+            Some(Windows::Always) => Ok(Some(99)),
+            Some(Windows::Listed(windows)) => Ok(Some(windows.as_slice().len())),
+            None => Ok(None),
+        }
+    }
+
+    #[test]
+    fn up_to_28_windows_are_listed(rt: HostRuntime) -> Result<(), Fail> {
+        let rows: [(&[u8], Option<usize>); 9] = [
+            (b"always", Some(99)),
+            (b"none", Some(0)),
+            (b"", None),
+            (b"Always", None),
+            (b"always+none", None),
+            (b"none+mon/01:00:00/60", None),
+            (b"mon/01:00:00/60+", None),
+            (b"mon/01:00:00/60", Some(1)),
+            (b"mon/01:00:00/60+mon/01:00:00/60", Some(2)),
+        ];
+        for (text, wanted) in rows {
+            assert_eq!(rt; count(rt.alloc(), text)?, wanted, "at {text:?}");
+        }
+        let mut many = b"mon/01:00:00/60".to_vec(rt.alloc())?;
+        for _ in 1..28 {
+            many.extend_from_slice(b"+mon/01:00:00/60")?;
+        }
+        assert_eq!(rt; count(rt.alloc(), &many)?, Some(28));
+        many.extend_from_slice(b"+mon/01:00:00/60")?;
+        assert_eq!(rt; count(rt.alloc(), &many)?, None);
+        Ok(())
+    }
+}
