@@ -1,0 +1,7 @@
+//! The text of a session: cut into the requests of its lines, with their payloads, while it is read from a source.
+#![tactic(auto)]
+
+mod line;
+
+/// No memory was left.
+pub type NoMemory = std::alloc::AllocError;
