@@ -1,7 +1,10 @@
 //! The text of a session: cut into the requests of its lines, with their payloads, while it is read from a source.
 #![tactic(auto)]
 
+mod ahead;
 mod line;
+mod payload;
+mod seek;
 
 /// No memory was left.
 pub type NoMemory = std::alloc::AllocError;
