@@ -1,1 +1,5 @@
+pub mod Lists
 pub mod Lines
+pub mod Wholes
+pub mod Fronts
+pub mod InTurn

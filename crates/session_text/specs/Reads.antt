@@ -17,7 +17,7 @@ IsLine (Err NoMemory) words = Unit {0}
 
 -- whether a line stands in what was read ahead
 abbrev pub IsSought : Sought → List ℕ → Type 0
-IsSought (sought.Line end) ahead = line_end ahead ≡ Some end
+IsSought (sought.Line end) ahead = (line_end ahead ≡ Some end) × (end < length ahead)
 IsSought sought.TooLong ahead = (line_end ahead ≡ None) × (line_limit < length ahead)
 IsSought sought.Ended ahead = (line_end ahead ≡ None) × (length ahead ≤ line_limit)
 IsSought sought.Failed ahead = (line_end ahead ≡ None) × (length ahead ≤ line_limit)

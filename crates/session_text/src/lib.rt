@@ -5,6 +5,9 @@ mod ahead;
 mod line;
 mod payload;
 mod seek;
+mod session;
+
+pub use session::{Asked, Next, SessionText};
 
 /// No memory was left.
 pub type NoMemory = std::alloc::AllocError;

@@ -1,5 +1,5 @@
 // The words of a line, and the payload that the last of them names.
-ghost use Rattle.std.specs.Prelude.{◌≡◌, ◌<◌, ◌≤◌, Some, IfOk, length, position};
+ghost use Rattle.std.specs.Prelude.{◌≡◌, ◌<◌, ◌≤◌, Some, IfOk, IfSome, length, position};
 ghost use Rattle.site_types.specs.Limits.{payload_limit};
 ghost use Rattle.session_text.specs.Turns.{line_limit, is_line_feed, line_end, words_of, without_return, size_of, payload_size, is_payload_word, last_word};
 ghost use Rattle.session_text.specs.Reads.{IsLine};
@@ -40,14 +40,16 @@ impl From<NoMemory> for LineFault {
 }
 
 fn find_line_feed(bytes: &[u8]) -> Option<usize>
-    ensures { result ≡ position is_line_feed bytes.now }
+    ensures place { result ≡ position is_line_feed bytes.now }
+    ensures within { IfSome result (λ end. end < length bytes.now) }
 {
     bytes.iter().position(|byte| *byte == b'\n')
 }
 
 // Where the first line ends, if it isn't too long.
 pub(crate) fn find_line_end(bytes: &[u8]) -> Option<usize>
-    ensures { result ≡ line_end bytes.now }
+    ensures end { result ≡ line_end bytes.now }
+    ensures within { IfSome result (λ end. end < length bytes.now) }
 {
     find_line_feed(&bytes[..bytes.len().min(LINE_LIMIT + 1)])
 }

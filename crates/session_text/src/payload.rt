@@ -28,6 +28,7 @@ pub(crate) fn fill<S: Source>(
     requires short { length payload.old.items ≤ size }
     ensures filled { IsFilled result size payload.new.items }
     ensures kept { (S.input source.old).tells → IsKeptByFilling result (payload.old.items ++ (S.input source.old).left) (payload.new.items ++ (S.input source.new).left) }
+    ensures grown { length payload.old.items ≤ length payload.new.items }
     ensures ended { (S.input source.old).tells → result ≡ Filled.Ended → (S.input source.new).left ≡ [] }
     ensures same { IsSameInput (S.input source.old) (S.input source.new) }
     ensures failed { result ≡ Filled.Failed → Rose (S.input source.old).faults (S.input source.new).faults }

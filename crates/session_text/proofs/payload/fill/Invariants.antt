@@ -4,6 +4,7 @@ use Rattle.session_text.proofs.payload.fill.Given as goal
 
 abbrev pub invariant-loop-payload : goal.invariant-loop-payload
 invariant-loop-payload g l = record {
+  grown : length l.fn.payload.items ≤ length l.payload.items;
   short : length l.payload.items ≤ l.size;
   same : IsSameInput (g.S.Source.input l.fn.source) (g.S.Source.input l.source);
   kept : (g.S.Source.input l.fn.source).tells → l.fn.payload.items ++ (g.S.Source.input l.fn.source).left ≡ l.payload.items ++ (g.S.Source.input l.source).left;
