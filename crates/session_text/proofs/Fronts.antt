@@ -14,6 +14,30 @@ pub record TakesFront (text rest : List ℕ) (turn : Turn) : Type 0 where
   pub split : text ≡ front ++ rest
   pub again : (more : List ℕ) → whole_turn (front ++ more) ≡ Some (turn, more)
 
+abbrev found : Turn → List ℕ → Option (Turn × List ℕ)
+found turn rest = Some (turn, rest)
+
+abbrev pub turn_in : Option (Turn × List ℕ) → Turn
+turn_in None = broken 0
+turn_in (Some taken) = taken.0
+
+abbrev pub rest_in : Option (Turn × List ℕ) → List ℕ
+rest_in None = []
+rest_in (Some taken) = taken.1
+
+apart : (index : ℕ) (text : List ℕ) (words : List (List ℕ)) (payload rest : List ℕ) → found (broken index) text ≡ found (request words payload) rest → ⊥
+apart index text words payload rest is =
+    let same : broken index ≡ request words payload = ap turn_in is in
+    cc same
+
+same_request : (w v : List (List ℕ)) (p q r s : List ℕ) → found (request w p) r ≡ found (request v q) s → (w ≡ v) × (p ≡ q) × (r ≡ s)
+same_request w v p q r s is =
+    let same : request w p ≡ request v q = ap turn_in is in
+    (cc same, cc same, ap rest_in is)
+
+none_found : (words : List (List ℕ)) (payload rest : List ℕ) → None ≡ found (request words payload) rest → ⊥
+none_found words payload rest is = cc is
+
 -- a line and the payload behind it, whatever follows
 line_again : (text payload more : List ℕ) (end size : ℕ) → line_end text ≡ Some end → payload_size (words_before end text) ≡ Some size → length payload ≡ size
     → whole_turn ((take (end + 1) text ++ payload) ++ more) ≡ Some (request (asked_words (words_before end text)) payload, more)
@@ -26,14 +50,12 @@ line_again text payload more end size ends sized long =
     ∙ (λ i. Some (request (asked_words (words_before end text)) (take_at payload more size long i), drop_at payload more size long i))
 
 front_of : (text : List ℕ) (end size : ℕ) (words : List (List ℕ)) (payload rest : List ℕ) (test : Bool) → line_end text ≡ Some end → payload_size (words_before end text) ≡ Some size → nat_le size (length (drop (end + 1) text)) ≡ test
-    → (if test then Some (request (asked_words (words_before end text)) (take size (drop (end + 1) text)), drop size (drop (end + 1) text)) else None) ≡ Some (request words payload, rest)
+    → (if test then found (request (asked_words (words_before end text)) (take size (drop (end + 1) text))) (drop size (drop (end + 1) text)) else None) ≡ found (request words payload) rest
     → TakesFront text rest (request words payload)
-front_of text end size words payload rest false ends sized test is = absurd (cc is)
+front_of text end size words payload rest false ends sized test is = absurd (none_found words payload rest is)
 front_of text end size words payload rest true ends sized test is =
     let fits : size ≤ length (drop (end + 1) text) = grind (arith, nat_tests) in
-    let words_are : asked_words (words_before end text) ≡ words = cc is in
-    let payload_is : take size (drop (end + 1) text) ≡ payload = cc is in
-    let rest_is : drop size (drop (end + 1) text) ≡ rest = cc is in
+    let (words_are, payload_is, rest_is) = same_request _ words _ payload _ rest is in
     let within : end < length text = line_end-within text end ends in
     let count : length (take (end + 1) text) ≡ end + 1 = length-take-le (end + 1) text (omega arith) in
     let all : length (take (end + 1) text ++ payload) ≡ length (take (end + 1) text) + length payload = length-append (take (end + 1) text) payload in
@@ -50,12 +72,12 @@ front_of text end size words payload rest true ends sized test is =
 
 front_sized : (text : List ℕ) (end : ℕ) (size : Option ℕ) (words : List (List ℕ)) (payload rest : List ℕ) → line_end text ≡ Some end → payload_size (words_before end text) ≡ size
     → cut_payload (words_before end text) size (drop (end + 1) text) ≡ Some (request words payload, rest) → TakesFront text rest (request words payload)
-front_sized text end None words payload rest ends sized is = absurd (cc is)
+front_sized text end None words payload rest ends sized is = absurd (apart _ _ words payload rest is)
 front_sized text end (Some size) words payload rest ends sized is = front_of text end size words payload rest (nat_le size (length (drop (end + 1) text))) ends sized refl is
 
-no_line : (text : List ℕ) (words : List (List ℕ)) (payload rest : List ℕ) (test : Bool) → (if test then Some (broken 0, text) else None) ≡ Some (request words payload, rest) → ⊥
-no_line text words payload rest true is = cc is
-no_line text words payload rest false is = cc is
+no_line : (text : List ℕ) (words : List (List ℕ)) (payload rest : List ℕ) (test : Bool) → (if test then found (broken 0) text else None) ≡ found (request words payload) rest → ⊥
+no_line text words payload rest true is = apart 0 text words payload rest is
+no_line text words payload rest false is = none_found words payload rest is
 
 front_at : (text : List ℕ) (end : Option ℕ) (words : List (List ℕ)) (payload rest : List ℕ) → line_end text ≡ end → turn_at end text ≡ Some (request words payload, rest) → TakesFront text rest (request words payload)
 front_at text None words payload rest ends is = absurd (no_line text words payload rest (nat_lt line_limit (length text)) is)

@@ -6,7 +6,7 @@ use Rattle.session_text.specs.Turns.{Turn, request, broken, whole_turn, last_tur
 use Rattle.session_text.specs.Session.{turn_asked, IsNext, IsWhole, IsInTurn, IsCut}
 use Rattle.session_text.specs.declared.session.Next.{Next}
 use Rattle.session_text.specs.declared.session.Next.TheVariants.{Request, Last, Broken, End, Failed, NoMemory}
-use Rattle.session_text.proofs.Fronts.{TakesFront, whole_turn-takes}
+use Rattle.session_text.proofs.Fronts.{TakesFront, rest_in, whole_turn-takes}
 
 whole_shortens : (text : List ℕ) (words : List (List ℕ)) (payload rest : List ℕ) → whole_turn text ≡ Some (request words payload, rest) → length rest < length text
 whole_shortens text words payload rest is =
@@ -16,10 +16,13 @@ whole_shortens text words payload rest is =
     let all : length text ≡ length (taken.front ++ rest) = ap (λ (l : List ℕ). length l) taken.split in
     omega arith
 
-last_shortens : (text : List ℕ) (words : List (List ℕ)) (payload rest : List ℕ) → option_map (λ (turn : Turn). (turn, [])) (last_turn text) ≡ Some (request words payload, rest) → length rest < length text
+abbrev alone : Turn → Turn × List ℕ
+alone turn = (turn, [])
+
+last_shortens : (text : List ℕ) (words : List (List ℕ)) (payload rest : List ℕ) → option_map alone (last_turn text) ≡ Some (request words payload, rest) → length rest < length text
 last_shortens [] words payload rest is = absurd (cc is)
 last_shortens (byte ∷ text) words payload rest is =
-    let none : [] ≡ rest = cc is in
+    let none : [] ≡ rest = ap rest_in is in
     let empty : length rest ≡ 0 = ap (λ (l : List ℕ). length l) (sym none) in
     omega arith
 
@@ -30,7 +33,14 @@ first_shortens_at text words payload rest (Some turn) whole is = whole_shortens 
 first_shortens : (text : List ℕ) (words : List (List ℕ)) (payload rest : List ℕ) → first_turn text ≡ Some (request words payload, rest) → length rest < length text
 first_shortens text words payload rest is = first_shortens_at text words payload rest (whole_turn text) refl is
 
--- enough fuel gives all turns
+-- the turns behind a turn, where both ways give the same behind it
+same_from : (turn : List ℕ → Option (Turn × List ℕ)) (more all : List ℕ → List Turn) (text : List ℕ) → ((words : List (List ℕ)) (payload rest : List ℕ) → turn text ≡ Some (request words payload, rest) → more rest ≡ all rest)
+    → (o : Option (Turn × List ℕ)) → turn text ≡ o → turns_from more o ≡ turns_from all o
+same_from turn more all text same None is = refl
+same_from turn more all text same (Some (request words payload, rest)) is = ap (λ (l : List Turn). request words payload ∷ l) (same words payload rest is)
+same_from turn more all text same (Some (broken index, rest)) is = refl
+
+-- enough steps give all turns
 same_turns : (turn : List ℕ → Option (Turn × List ℕ)) → ((text : List ℕ) (words : List (List ℕ)) (payload rest : List ℕ) → turn text ≡ Some (request words payload, rest) → length rest < length text) → turn [] ≡ None
     → (m n : ℕ) (text : List ℕ) → length text ≤ m → length text ≤ n → turns_up_to turn m text ≡ turns_up_to turn n text
 same_turns turn shortens none zero zero text le le' = refl
@@ -38,33 +48,29 @@ same_turns turn shortens none zero (suc n) [] le le' = ap (λ (o : Option (Turn 
 same_turns turn shortens none zero (suc n) (byte ∷ text) le le' = absurd (omega arith)
 same_turns turn shortens none (suc m) zero [] le le' = ap (λ (o : Option (Turn × List ℕ)). turns_from (turns_up_to turn m) o) none
 same_turns turn shortens none (suc m) zero (byte ∷ text) le le' = absurd (omega arith)
-same_turns turn shortens none (suc m) (suc n) text le le' = at (turn text) refl
-  where
-    at : (o : Option (Turn × List ℕ)) → turn text ≡ o → turns_from (turns_up_to turn m) o ≡ turns_from (turns_up_to turn n) o
-    at None is = refl
-    at (Some (request words payload, rest)) is =
-        let fewer : length rest < length text = shortens text words payload rest is in
-        ap (λ (l : List Turn). request words payload ∷ l) (same_turns turn shortens none m n rest (omega arith) (omega arith))
-    at (Some (broken index, rest)) is = refl
+same_turns turn shortens none (suc m) (suc n) text le le' =
+    same_from turn (turns_up_to turn m) (turns_up_to turn n) text
+    (λ words payload rest is.
+    let fewer : length rest < length text = shortens text words payload rest is in
+    same_turns turn shortens none m n rest (omega arith) (omega arith))
+    (turn text) refl
 
-unfolds_at : (turn : List ℕ → Option (Turn × List ℕ)) → ((text : List ℕ) (words : List (List ℕ)) (payload rest : List ℕ) → turn text ≡ Some (request words payload, rest) → length rest < length text) → turn [] ≡ None
+unfolds : (turn : List ℕ → Option (Turn × List ℕ)) → ((text : List ℕ) (words : List (List ℕ)) (payload rest : List ℕ) → turn text ≡ Some (request words payload, rest) → length rest < length text) → turn [] ≡ None
     → (text : List ℕ) → turns_up_to turn (length text) text ≡ turns_from (λ (rest : List ℕ). turns_up_to turn (length rest) rest) (turn text)
-unfolds_at turn shortens none text =
-    same_turns turn shortens none (length text) (suc (length text)) text (omega arith) (omega arith) ∙ at (turn text) refl
-  where
-    at : (o : Option (Turn × List ℕ)) → turn text ≡ o → turns_from (turns_up_to turn (length text)) o ≡ turns_from (λ (rest : List ℕ). turns_up_to turn (length rest) rest) o
-    at None is = refl
-    at (Some (request words payload, rest)) is =
-        let fewer : length rest < length text = shortens text words payload rest is in
-        ap (λ (l : List Turn). request words payload ∷ l) (same_turns turn shortens none (length text) (length rest) rest (omega arith) (omega arith))
-    at (Some (broken index, rest)) is = refl
+unfolds turn shortens none text =
+    same_turns turn shortens none (length text) (suc (length text)) text (omega arith) (omega arith)
+    ∙ same_from turn (turns_up_to turn (length text)) (λ (rest : List ℕ). turns_up_to turn (length rest) rest) text
+    (λ words payload rest is.
+    let fewer : length rest < length text = shortens text words payload rest is in
+    same_turns turn shortens none (length text) (length rest) rest (omega arith) (omega arith))
+    (turn text) refl
 
 -- the turns of a text are its first turn and those behind it
 pub turns-unfolds : (text : List ℕ) → turns text ≡ turns_from turns (first_turn text)
-turns-unfolds text = unfolds_at first_turn first_shortens refl text
+turns-unfolds text = unfolds first_turn first_shortens refl text
 
 pub whole_turns-unfolds : (text : List ℕ) → whole_turns text ≡ turns_from whole_turns (whole_turn text)
-whole_turns-unfolds text = unfolds_at whole_turn whole_shortens refl text
+whole_turns-unfolds text = unfolds whole_turn whole_shortens refl text
 
 pub turns-first : (text : List ℕ) (first : Option (Turn × List ℕ)) → first_turn text ≡ first → turns text ≡ turns_from turns first
 turns-first text first is = turns-unfolds text ∙ ap (λ (o : Option (Turn × List ℕ)). turns_from turns o) is
