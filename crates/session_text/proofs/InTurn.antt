@@ -99,7 +99,7 @@ is_whole text held left (Last asked) cut = (cut.0, cut.2)
 is_whole text held left (Broken index) cut = (cut.0, cut.2)
 is_whole text held left End cut = tt
 is_whole text held left Failed cut = tt
-is_whole text held left NoMemory cut = tt
+is_whole text held left NoMemory cut = cut
 
 pub is_in_turn : (text held left : List ℕ) (next : Next) → IsCut text next held left → IsInTurn text next (held ++ left)
 is_in_turn text held left (Request asked) cut = turns-first text (Some (turn_asked asked, held ++ left)) (first_turn-whole text (turn_asked asked, held ++ left) cut)

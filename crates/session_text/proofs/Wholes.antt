@@ -170,7 +170,7 @@ ended_here a held (Broken index) none last =
     (append-nil held ∙ last.1, here, subst (λ (t : List ℕ). BreaksAt t index) (sym last.1) here)
 ended_here a held End none last = (last.0, append-nil held ∙ last.1)
 ended_here a held Failed none last = absurd last
-ended_here a held NoMemory none last = tt
+ended_here a held NoMemory none last = append-nil held ∙ last
 
 pub ended : (text a left held stalled : List ℕ) (next : Next) → text ≡ a ++ left → left ≡ [] → stalled ≡ [] → line_end a ≡ None → length a ≤ line_limit → IsLast a next held → IsCut text next (held ++ stalled) left
 ended text a left held stalled next text_is left_is none unended short last =

@@ -23,18 +23,8 @@ IsSought sought.Ended ahead = (line_end ahead ≡ None) × (length ahead ≤ lin
 IsSought sought.Failed ahead = (line_end ahead ≡ None) × (length ahead ≤ line_limit)
 IsSought sought.NoMemory ahead = Unit {0}
 
--- no byte of the text is lost, unless memory is
-abbrev pub IsKeptBySearch : Sought → List ℕ → List ℕ → Type 0
-IsKeptBySearch sought.NoMemory old new = Unit {0}
-IsKeptBySearch _ old new = old ≡ new
-
 -- whether a payload has its size
 abbrev pub IsFilled : Filled → ℕ → List ℕ → Type 0
 IsFilled filled.Whole size payload = length payload ≡ size
 IsFilled filled.Ended size payload = length payload < size
 IsFilled filled.Failed size payload = length payload < size
-IsFilled filled.NoMemory size payload = Unit {0}
-
-abbrev pub IsKeptByFilling : Filled → List ℕ → List ℕ → Type 0
-IsKeptByFilling filled.NoMemory old new = Unit {0}
-IsKeptByFilling _ old new = old ≡ new

@@ -22,14 +22,14 @@ IsNext text End held left = (text ≡ []) × (held ++ left ≡ [])
 IsNext text Failed held left = (held ++ left ≡ text) × (whole_turn held ≡ None)
 IsNext text NoMemory held left = Unit {0}
 
--- how much of the text it was seen in: a request that isn't the last is a whole turn, the last one ends with its source, and a fault is seen in what was read
+-- how much of the text it was seen in: a request that isn't the last is a whole turn, the last one ends with its source, and a fault is seen in what was read; without memory nothing is lost
 abbrev pub IsWhole : List ℕ → Next → List ℕ → List ℕ → Type 0
 IsWhole text (Request asked) held left = whole_turn text ≡ Some (turn_asked asked, held ++ left)
 IsWhole text (Last asked) held left = (whole_turn text ≡ None) × (held ++ left ≡ [])
 IsWhole text (Broken index) held left = (held ++ left ≡ text) × BreaksAt held index
 IsWhole text End held left = Unit {0}
 IsWhole text Failed held left = Unit {0}
-IsWhole text NoMemory held left = Unit {0}
+IsWhole text NoMemory held left = held ++ left ≡ text
 
 -- the turns of the text are what is next and those of the rest
 abbrev pub IsInTurn : List ℕ → Next → List ℕ → Type 0
@@ -56,7 +56,7 @@ IsCut text (Last asked) held left = (whole_turn text ≡ None) × (last_turn tex
 IsCut text (Broken index) held left = (held ++ left ≡ text) × BreaksAt text index × BreaksAt held index
 IsCut text End held left = (text ≡ []) × (held ++ left ≡ [])
 IsCut text Failed held left = (held ++ left ≡ text) × (whole_turn held ≡ None)
-IsCut text NoMemory held left = Unit {0}
+IsCut text NoMemory held left = held ++ left ≡ text
 
 -- what is next where the source has ended, and what is held afterwards
 abbrev pub IsLast : List ℕ → Next → List ℕ → Type 0
@@ -65,4 +65,4 @@ IsLast text (Last asked) held = (last_turn text ≡ Some (turn_asked asked)) × 
 IsLast text (Broken index) held = (last_turn text ≡ Some (broken index)) × (held ≡ text)
 IsLast text End held = (text ≡ []) × (held ≡ [])
 IsLast text Failed held = ⊥
-IsLast text NoMemory held = Unit {0}
+IsLast text NoMemory held = held ≡ text

@@ -1,8 +1,8 @@
 // Filling a payload from a source.
-ghost use Rattle.std.specs.Prelude.{◌≡◌, ◌<◌, ◌≤◌, ◌++◌, [], length};
+ghost use Rattle.std.specs.Prelude.{◌≡◌, ◌<◌, ◌≤◌, ◌++◌, [], length, vec_capacity};
 ghost use Rattle.vault_disk.specs.Input.{IsSameInput};
 ghost use Rattle.vault_disk.specs.Steps.{Rose};
-ghost use Rattle.session_text.specs.Reads.{IsFilled, IsKeptByFilling};
+ghost use Rattle.session_text.specs.Reads.{IsFilled};
 
 use vault_disk::Source;
 
@@ -14,10 +14,9 @@ pub(crate) enum Filled {
     Ended,
     // A read failed.
     Failed,
-    NoMemory,
 }
 
-// Reads a payload on, up to its size.
+// Reads a payload on, up to its size, for which there is room.
 pub(crate) fn fill<S: Source>(
     payload: &mut Vec<u8>,
     size: usize,
@@ -25,9 +24,10 @@ pub(crate) fn fill<S: Source>(
     block: &mut [u8],
 ) -> Filled
     requires room { 0 < length block.old }
+    requires reserved { size ≤ vec_capacity payload.old }
     requires short { length payload.old.items ≤ size }
     ensures filled { IsFilled result size payload.new.items }
-    ensures kept { (S.input source.old).tells → IsKeptByFilling result (payload.old.items ++ (S.input source.old).left) (payload.new.items ++ (S.input source.new).left) }
+    ensures kept { (S.input source.old).tells → payload.new.items ++ (S.input source.new).left ≡ payload.old.items ++ (S.input source.old).left }
     ensures grown { length payload.old.items ≤ length payload.new.items }
     ensures ended { (S.input source.old).tells → result ≡ Filled.Ended → (S.input source.new).left ≡ [] }
     ensures same { IsSameInput (S.input source.old) (S.input source.new) }
@@ -42,7 +42,7 @@ pub(crate) fn fill<S: Source>(
             return Filled::Ended;
         }
         if payload.extend_from_slice(&block[..count]).is_err() {
-            return Filled::NoMemory;
+            unreachable!();
         }
     }
     Filled::Whole

@@ -2,11 +2,11 @@
 ghost use Rattle.std.specs.Prelude.{◌≡◌, ◌<◌, ◌++◌, [], length};
 ghost use Rattle.vault_disk.specs.Input.{IsSameInput};
 ghost use Rattle.vault_disk.specs.Steps.{Rose};
-ghost use Rattle.session_text.specs.Reads.{IsSought, IsKeptBySearch};
+ghost use Rattle.session_text.specs.Reads.{IsSought};
 
 use crate::ahead::Ahead;
 use crate::line::{LINE_LIMIT, find_line_end};
-use vault_disk::Source;
+use vault_disk::{ReadFault, Source};
 
 // How a search for a line ended.
 #[derive(Drop)]
@@ -24,7 +24,7 @@ pub(crate) enum Sought {
 pub(crate) fn seek_line<S: Source>(ahead: &mut Ahead, source: &mut S, block: &mut [u8]) -> Sought
     requires { 0 < length block.old }
     ensures sought { IsSought result ahead.new }
-    ensures kept { (S.input source.old).tells → IsKeptBySearch result (ahead.old ++ (S.input source.old).left) (ahead.new ++ (S.input source.new).left) }
+    ensures kept { (S.input source.old).tells → ahead.new ++ (S.input source.new).left ≡ ahead.old ++ (S.input source.old).left }
     ensures ended { (S.input source.old).tells → result ≡ Sought.Ended → (S.input source.new).left ≡ [] }
     ensures same { IsSameInput (S.input source.old) (S.input source.new) }
     ensures failed { result ≡ Sought.Failed → Rose (S.input source.old).faults (S.input source.new).faults }
@@ -36,14 +36,11 @@ pub(crate) fn seek_line<S: Source>(ahead: &mut Ahead, source: &mut S, block: &mu
         if ahead.bytes().len() > LINE_LIMIT {
             return Sought::TooLong;
         }
-        let Ok(count) = source.read(block) else {
-            return Sought::Failed;
-        };
-        if count == 0 {
-            return Sought::Ended;
-        }
-        if ahead.append(&block[..count]).is_err() {
-            return Sought::NoMemory;
+        match ahead.read_on(source, block) {
+            Ok(0) => return Sought::Ended,
+            Ok(_) => {}
+            Err(ReadFault::Failed) => return Sought::Failed,
+            Err(ReadFault::NoMemory) => return Sought::NoMemory,
         }
     }
 }

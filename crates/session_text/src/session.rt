@@ -1,5 +1,5 @@
 // The requests of a session, one after another.
-ghost use Rattle.std.specs.Prelude.{◌≡◌, ◌<◌, ◌≤◌, Some, None, [], ◌++◌, length, take, IfOk};
+ghost use Rattle.std.specs.Prelude.{◌≡◌, ◌<◌, ◌≤◌, Some, None, [], ◌++◌, length, take, IfOk, vec_capacity};
 ghost use Rattle.vault_disk.specs.Input.{IsSameInput};
 ghost use Rattle.vault_disk.specs.Steps.{Rose};
 ghost use Rattle.site_types.specs.Limits.{payload_limit};
@@ -45,7 +45,8 @@ pub enum Next {
 
 // The front of these bytes, with room for a payload of this size.
 fn front_of(alloc: Global, bytes: &[u8], size: usize) -> Result<Vec<u8>, NoMemory>
-    ensures { IfOk result (λ v. v.items ≡ take size bytes.now) }
+    ensures front { IfOk result (λ v. v.items ≡ take size bytes.now) }
+    ensures room { IfOk result (λ v. size ≤ vec_capacity v) }
 {
     let mut front = Vec::with_capacity(alloc, size)?;
     front.extend_from_slice(&bytes[..bytes.len().min(size)])?;
@@ -98,7 +99,6 @@ fn take_payload<S: Source>(
             *stalled = payload;
             Next::Failed
         }
-        Filled::NoMemory => Next::NoMemory,
     }
 }
 

@@ -1,9 +1,10 @@
-use Rattle.std.proofs.Common.{◌≡◌, ◌≤◌, ◌-◌, ◌++◌, length}
+use Rattle.std.proofs.Common.{vec_capacity, ◌≡◌, ◌≤◌, ◌-◌, ◌++◌, length}
 use Rattle.vault_disk.specs.Input.{IsSameInput}
 use Rattle.session_text.proofs.payload.fill.Given as goal
 
 abbrev pub invariant-loop-payload : goal.invariant-loop-payload
 invariant-loop-payload g l = record {
+  reserved : l.size ≤ vec_capacity l.payload;
   grown : length l.fn.payload.items ≤ length l.payload.items;
   short : length l.payload.items ≤ l.size;
   same : IsSameInput (g.S.Source.input l.fn.source) (g.S.Source.input l.source);
