@@ -11,3 +11,6 @@ pub use session::{Asked, Next, SessionText};
 
 /// No memory was left.
 pub type NoMemory = std::alloc::AllocError;
+
+#[cfg(test)]
+mod tests;
