@@ -1,10 +1,10 @@
 -- A whole turn is the same in front of any other text.
-use Rattle.std.proofs.Common.{◌≡◌, ◌<◌, ◌≤◌, ◌+◌, ◌-◌, ℕ, min, List, [], ◌∷◌, ◌++◌, length, take, drop, Bool, true, false, refl, sym, ◌∙◌, ap, arith, append_assoc, length-append, length-take, take-append-drop}
+use Rattle.std.proofs.Common.{◌≡◌, ◌<◌, ◌≤◌, ◌+◌, ℕ, List, [], ◌++◌, length, take, drop, Bool, true, false, refl, sym, ◌∙◌, ap, arith, append_assoc, length-append, take-append-drop}
 use Rattle.std.specs.Prelude.{Option, Some, None, nat_lt, nat_le, if◌then◌else◌}
 use Rattle.std.proofs.lemmas.List.{take_at, drop_at, length-take-le}
 use Rattle.std.proofs.lemmas.Bool.Decides.{nat_tests}
-use Rattle.session_text.specs.Turns.{Turn, request, broken, line_limit, line_end, words_before, payload_size, asked_words, cut_payload, turn_of, turn_at, whole_turn}
-use Rattle.session_text.proofs.Lines.{line_end-within, line_end-take}
+use Rattle.session_text.specs.Turns.{Turn, request, broken, line_limit, line_end, words_before, payload_size, asked_words, cut_payload, turn_at, whole_turn}
+use Rattle.session_text.proofs.Lines.{line_end-within}
 use Rattle.session_text.proofs.Wholes.{whole_turn-cut, turn_of-sized, cut_payload-whole}
 
 -- a turn takes some bytes off the front of a text, and takes them off the front of any text that begins so

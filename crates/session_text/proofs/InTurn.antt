@@ -1,12 +1,12 @@
 -- The turns of a text, one after another.
-use Rattle.std.proofs.Common.{◌≡◌, ◌<◌, ◌≤◌, ◌+◌, ℕ, zero, suc, List, [], ◌∷◌, ◌++◌, length, refl, sym, ◌∙◌, ap, subst, arith, append_assoc, length-append}
+use Rattle.std.proofs.Common.{◌≡◌, ◌<◌, ◌≤◌, ◌+◌, ℕ, zero, suc, List, [], ◌∷◌, ◌++◌, length, refl, sym, ◌∙◌, ap, arith, length-append}
 use Rattle.std.specs.Prelude.{Option, Some, None}
 use Rattle.std.specs.Option.{option_map}
 use Rattle.session_text.specs.Turns.{Turn, request, broken, whole_turn, last_turn, first_turn, or_last, turns_from, turns_up_to, turns, whole_turns}
 use Rattle.session_text.specs.Session.{turn_asked, IsNext, IsWhole, IsInTurn, IsCut}
 use Rattle.session_text.specs.declared.session.Next.{Next}
 use Rattle.session_text.specs.declared.session.Next.TheVariants.{Request, Last, Broken, End, Failed, NoMemory}
-use Rattle.session_text.proofs.Fronts.{TakesFront, rest_in, whole_turn-takes}
+use Rattle.session_text.proofs.Fronts.{rest_in, whole_turn-takes}
 
 whole_shortens : (text : List ℕ) (words : List (List ℕ)) (payload rest : List ℕ) → whole_turn text ≡ Some (request words payload, rest) → length rest < length text
 whole_shortens text words payload rest is =

@@ -3,3 +3,4 @@ pub mod Lines
 pub mod Wholes
 pub mod Fronts
 pub mod InTurn
+pub mod Handed

@@ -1,8 +1,8 @@
 -- Where a line ends.
-use Rattle.std.proofs.Common.{◌≡◌, ◌<◌, ◌≤◌, ◌+◌, ◌-◌, ℕ, zero, suc, min, List, [], ◌∷◌, ◌++◌, length, take, drop, get_or, Bool, true, false, cond, refl, sym, ◌∙◌, ap, subst, arith, length-append, length-take, inl, inr}
-use Rattle.std.specs.Prelude.{position, Option, Some, None, nat_lt, is_some}
+use Rattle.std.proofs.Common.{◌≡◌, ◌<◌, ◌≤◌, ◌+◌, ℕ, min, List, ◌++◌, length, take, get_or, Bool, true, false, cond, sym, ◌∙◌, ap, arith, length-append, length-take}
+use Rattle.std.specs.Prelude.{position, Some, None, nat_lt}
 use Rattle.std.specs.List.{position_or_len}
-use Rattle.std.proofs.lemmas.List.{take_min, take_all, take-take, take-append-le, get_or-take, get_or_append_left}
+use Rattle.std.proofs.lemmas.List.{take_min, take-append-le, get_or-take, get_or_append_left}
 use Rattle.std.proofs.lemmas.List.Quantifiers.{position-Some}
 use Rattle.std.proofs.lemmas.List.Sums.{position_or_len_is}
 use Rattle.std.proofs.lemmas.Bool.Decides.{nat_tests}

@@ -1,7 +1,6 @@
 -- Cut and joined lists.
-use Rattle.std.proofs.Common.{◌≡◌, ◌<◌, ◌≤◌, ◌+◌, ◌-◌, ℕ, min, List, [], ◌∷◌, ◌++◌, length, take, drop, get_or, Bool, true, false, refl, sym, ◌∙◌, ap, subst, arith, append_assoc, length-append, length-take, length-drop, take-append-drop, inl, inr}
-use Rattle.std.proofs.lemmas.List.{take_min, take_all, drop_all, take_at, drop_at, take-append-le, drop-append-le, drop-drop, append_cancel_left, append-nil}
-use Rattle.std.proofs.lemmas.Bool.{cases_lt}
+use Rattle.std.proofs.Common.{◌≡◌, ℕ, List, ◌++◌, length, take, drop, refl, sym, ◌∙◌}
+use Rattle.std.proofs.lemmas.List.{take_at, drop_at}
 
 -- joined parts of equal length at the front are equal, and so is what stands behind them
 pub same_parts : (a b c d : List ℕ) → length a ≡ length c → a ++ b ≡ c ++ d → (a ≡ c) × (b ≡ d)

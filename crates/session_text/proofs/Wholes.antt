@@ -1,11 +1,11 @@
 -- Whole turns, and those that are cut off.
-use Rattle.std.proofs.Common.{◌≡◌, ◌<◌, ◌≤◌, ◌+◌, ◌-◌, ℕ, zero, suc, min, List, [], ◌∷◌, ◌++◌, length, take, drop, get_or, Bool, true, false, cond, refl, sym, ◌∙◌, ap, subst, ◌⊎◌, arith, append_assoc, length-append, length-take, length-drop, take-append-drop, inl, inr}
+use Rattle.std.proofs.Common.{◌≡◌, ◌<◌, ◌≤◌, ◌+◌, ℕ, zero, suc, min, List, [], ◌∷◌, ◌++◌, length, take, drop, Bool, true, false, refl, sym, ◌∙◌, ap, subst, ◌⊎◌, arith, append_assoc, length-append, length-take, take-append-drop, inl, inr}
 use Rattle.std.specs.Option.{option_map}
 use Rattle.std.specs.Prelude.{Option, Some, None, nat_lt, nat_le, if◌then◌else◌}
 use Rattle.std.proofs.lemmas.List.{take_all, drop_all, take_at, drop_at, take-take, take-append-le, drop-append-le, drop-drop, append-nil, length-take-le, drop_min}
 use Rattle.std.proofs.lemmas.Bool.{cases_lt}
 use Rattle.std.proofs.lemmas.Bool.Decides.{nat_tests}
-use Rattle.session_text.specs.Turns.{Turn, request, broken, line_limit, line_end, words_of, without_return, words_before, payload_size, asked_words, last_index, cut_payload, turn_of, turn_at, whole_turn, last_turn, first_turn, or_last, cut_off, turn_without_end}
+use Rattle.session_text.specs.Turns.{Turn, request, broken, line_limit, line_end, words_of, without_return, words_before, payload_size, asked_words, last_index, cut_payload, turn_of, turn_at, whole_turn, last_turn, or_last, cut_off, turn_without_end}
 use Rattle.session_text.specs.Session.{BreaksAt, IsCut, IsLast}
 use Rattle.session_text.specs.declared.session.Next.{Next}
 use Rattle.session_text.specs.declared.session.Next.TheVariants.{Request, Last, Broken, End, Failed, NoMemory}

@@ -1,7 +1,7 @@
 -- What a call of a session's text hands on.
-use Rattle.std.specs.Prelude.{◌≡◌, ℕ, ◌≤◌, List, [], ◌∷◌, ◌++◌, length, Option, Some, None}
+use Rattle.std.specs.Prelude.{◌≡◌, ℕ, ◌≤◌, List, [], ◌∷◌, ◌++◌, length, Some, None}
 use Rattle.site_types.specs.Limits.{payload_limit}
-use Rattle.session_text.specs.Turns.{Turn, request, broken, whole_turn, last_turn, first_turn, turns, whole_turns}
+use Rattle.session_text.specs.Turns.{Turn, request, broken, whole_turn, last_turn, first_turn, turns}
 use Rattle.session_text.specs.declared.session.Asked.{Asked}
 use Rattle.session_text.specs.declared.session.Next.{Next}
 use Rattle.session_text.specs.declared.session.Next.TheVariants.{Request, Last, Broken, End, Failed, NoMemory}

@@ -134,10 +134,11 @@ fn take_last(alloc: Global, ahead: &mut Ahead) -> Next
     ensures last { IsLast ahead.old result ahead.new }
     ensures short { IsShort result }
 {
-    if ahead.bytes().is_empty() {
+    let bytes = ahead.bytes();
+    if bytes.is_empty() {
         return Next::End;
     }
-    match read_line(alloc, ahead.bytes()) {
+    match read_line(alloc, bytes) {
         Ok(line) if line.size == 0 => {
             ahead.skip(ahead.bytes().len());
             Next::Last(Asked {
@@ -211,7 +212,7 @@ impl SessionText {
         })
     }
 
-    /// The next request of the session. The source is read no further than one block behind its line, and behind its payload not at all.
+    /// The next request of the session. The source is read by blocks of 65,536 bytes until a line ends, and from then on no further than the end of its payload.
     pub fn next<S: Source>(&mut self, alloc: Global, source: &mut S) -> Next
         ensures next { (S.input source.old).tells → IsNext (self.old ++ (S.input source.old).left) result self.new (S.input source.new).left }
         ensures whole { (S.input source.old).tells → IsWhole (self.old ++ (S.input source.old).left) result self.new (S.input source.new).left }

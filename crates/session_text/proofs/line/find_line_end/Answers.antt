@@ -1,4 +1,4 @@
-use Rattle.std.proofs.Common.{rules, ◌≡◌, ◌∙◌, ap, List, ℕ}
+use Rattle.std.proofs.Common.{◌∙◌, ap, List, ℕ}
 use Rattle.std.specs.Prelude.{position}
 use Rattle.session_text.specs.Turns.{is_line_feed}
 use Rattle.session_text.proofs.Lines.{front_is}

@@ -1,4 +1,4 @@
-use Rattle.std.proofs.Common.{rules, ◌≡◌, ◌∙◌, ◌++◌, ℕ, List, ap, sym, subst}
+use Rattle.std.proofs.Common.{rules, ◌≡◌, ◌∙◌, ◌++◌, ℕ, List, subst}
 use Rattle.session_text.specs.Session.{IsCut}
 use Rattle.session_text.proofs.InTurn.{is_next, is_whole, is_in_turn}
 use Rattle.session_text.proofs.session.SessionText.next.Goals as goal
