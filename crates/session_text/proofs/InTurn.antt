@@ -1,0 +1,110 @@
+-- The turns of a text, one after another.
+use Rattle.std.proofs.Common.{◌≡◌, ◌<◌, ◌≤◌, ◌+◌, ℕ, zero, suc, List, [], ◌∷◌, ◌++◌, length, refl, sym, ◌∙◌, ap, arith, length-append}
+use Rattle.std.specs.Prelude.{Option, Some, None}
+use Rattle.std.specs.Option.{option_map}
+use Rattle.session_text.specs.Turns.{Turn, request, broken, whole_turn, last_turn, first_turn, or_last, turns_from, turns_up_to, turns, whole_turns}
+use Rattle.session_text.specs.Session.{turn_asked, IsNext, IsWhole, IsInTurn, IsCut}
+use Rattle.session_text.specs.declared.session.Next.{Next}
+use Rattle.session_text.specs.declared.session.Next.TheVariants.{Request, Last, Broken, End, Failed, NoMemory}
+use Rattle.session_text.proofs.Fronts.{rest_in, whole_turn-takes}
+
+whole_shortens : (text : List ℕ) (words : List (List ℕ)) (payload rest : List ℕ) → whole_turn text ≡ Some (request words payload, rest) → length rest < length text
+whole_shortens text words payload rest is =
+    let taken = whole_turn-takes text words payload rest is in
+    let some : 0 < length taken.front = taken.some in
+    let count : length (taken.front ++ rest) ≡ length taken.front + length rest = length-append taken.front rest in
+    let all : length text ≡ length (taken.front ++ rest) = ap (λ (l : List ℕ). length l) taken.split in
+    omega arith
+
+abbrev alone : Turn → Turn × List ℕ
+alone turn = (turn, [])
+
+last_shortens : (text : List ℕ) (words : List (List ℕ)) (payload rest : List ℕ) → option_map alone (last_turn text) ≡ Some (request words payload, rest) → length rest < length text
+last_shortens [] words payload rest is = absurd (cc is)
+last_shortens (byte ∷ text) words payload rest is =
+    let none : [] ≡ rest = ap rest_in is in
+    let empty : length rest ≡ 0 = ap (λ (l : List ℕ). length l) (sym none) in
+    omega arith
+
+first_shortens_at : (text : List ℕ) (words : List (List ℕ)) (payload rest : List ℕ) (turn : Option (Turn × List ℕ)) → whole_turn text ≡ turn → or_last turn text ≡ Some (request words payload, rest) → length rest < length text
+first_shortens_at text words payload rest None whole is = last_shortens text words payload rest is
+first_shortens_at text words payload rest (Some turn) whole is = whole_shortens text words payload rest (whole ∙ is)
+
+first_shortens : (text : List ℕ) (words : List (List ℕ)) (payload rest : List ℕ) → first_turn text ≡ Some (request words payload, rest) → length rest < length text
+first_shortens text words payload rest is = first_shortens_at text words payload rest (whole_turn text) refl is
+
+-- the turns behind a turn, where both ways give the same behind it
+same_from : (turn : List ℕ → Option (Turn × List ℕ)) (more all : List ℕ → List Turn) (text : List ℕ) → ((words : List (List ℕ)) (payload rest : List ℕ) → turn text ≡ Some (request words payload, rest) → more rest ≡ all rest)
+    → (o : Option (Turn × List ℕ)) → turn text ≡ o → turns_from more o ≡ turns_from all o
+same_from turn more all text same None is = refl
+same_from turn more all text same (Some (request words payload, rest)) is = ap (λ (l : List Turn). request words payload ∷ l) (same words payload rest is)
+same_from turn more all text same (Some (broken index, rest)) is = refl
+
+-- enough steps give all turns
+same_turns : (turn : List ℕ → Option (Turn × List ℕ)) → ((text : List ℕ) (words : List (List ℕ)) (payload rest : List ℕ) → turn text ≡ Some (request words payload, rest) → length rest < length text) → turn [] ≡ None
+    → (m n : ℕ) (text : List ℕ) → length text ≤ m → length text ≤ n → turns_up_to turn m text ≡ turns_up_to turn n text
+same_turns turn shortens none zero zero text le le' = refl
+same_turns turn shortens none zero (suc n) [] le le' = ap (λ (o : Option (Turn × List ℕ)). turns_from (turns_up_to turn n) o) (sym none)
+same_turns turn shortens none zero (suc n) (byte ∷ text) le le' = absurd (omega arith)
+same_turns turn shortens none (suc m) zero [] le le' = ap (λ (o : Option (Turn × List ℕ)). turns_from (turns_up_to turn m) o) none
+same_turns turn shortens none (suc m) zero (byte ∷ text) le le' = absurd (omega arith)
+same_turns turn shortens none (suc m) (suc n) text le le' =
+    same_from turn (turns_up_to turn m) (turns_up_to turn n) text
+    (λ words payload rest is.
+    let fewer : length rest < length text = shortens text words payload rest is in
+    same_turns turn shortens none m n rest (omega arith) (omega arith))
+    (turn text) refl
+
+unfolds : (turn : List ℕ → Option (Turn × List ℕ)) → ((text : List ℕ) (words : List (List ℕ)) (payload rest : List ℕ) → turn text ≡ Some (request words payload, rest) → length rest < length text) → turn [] ≡ None
+    → (text : List ℕ) → turns_up_to turn (length text) text ≡ turns_from (λ (rest : List ℕ). turns_up_to turn (length rest) rest) (turn text)
+unfolds turn shortens none text =
+    same_turns turn shortens none (length text) (suc (length text)) text (omega arith) (omega arith)
+    ∙ same_from turn (turns_up_to turn (length text)) (λ (rest : List ℕ). turns_up_to turn (length rest) rest) text
+    (λ words payload rest is.
+    let fewer : length rest < length text = shortens text words payload rest is in
+    same_turns turn shortens none (length text) (length rest) rest (omega arith) (omega arith))
+    (turn text) refl
+
+-- the turns of a text are its first turn and those behind it
+pub turns-unfolds : (text : List ℕ) → turns text ≡ turns_from turns (first_turn text)
+turns-unfolds text = unfolds first_turn first_shortens refl text
+
+pub whole_turns-unfolds : (text : List ℕ) → whole_turns text ≡ turns_from whole_turns (whole_turn text)
+whole_turns-unfolds text = unfolds whole_turn whole_shortens refl text
+
+pub turns-first : (text : List ℕ) (first : Option (Turn × List ℕ)) → first_turn text ≡ first → turns text ≡ turns_from turns first
+turns-first text first is = turns-unfolds text ∙ ap (λ (o : Option (Turn × List ℕ)). turns_from turns o) is
+
+pub whole_turns-whole : (text : List ℕ) (whole : Option (Turn × List ℕ)) → whole_turn text ≡ whole → whole_turns text ≡ turns_from whole_turns whole
+whole_turns-whole text whole is = whole_turns-unfolds text ∙ ap (λ (o : Option (Turn × List ℕ)). turns_from whole_turns o) is
+
+pub first_turn-whole : (text : List ℕ) (turn : Turn × List ℕ) → whole_turn text ≡ Some turn → first_turn text ≡ Some turn
+first_turn-whole text turn is = ap (λ (o : Option (Turn × List ℕ)). or_last o text) is
+
+pub first_turn-last : (text : List ℕ) (turn : Turn) → whole_turn text ≡ None → last_turn text ≡ Some turn → first_turn text ≡ Some (turn, [])
+first_turn-last text turn none last = ap (λ (o : Option (Turn × List ℕ)). or_last o text) none ∙ ap (λ (o : Option Turn). option_map (λ (t : Turn). (t, [])) o) last
+
+-- what a call hands on
+pub is_next : (text held left : List ℕ) (next : Next) → IsCut text next held left → IsNext text next held left
+is_next text held left (Request asked) cut = first_turn-whole text (turn_asked asked, held ++ left) cut
+is_next text held left (Last asked) cut = first_turn-last text (turn_asked asked) cut.0 cut.1 ∙ ap (λ (l : List ℕ). Some (turn_asked asked, l)) (sym cut.2)
+is_next text held left (Broken index) cut = cut.1
+is_next text held left End cut = cut
+is_next text held left Failed cut = cut
+is_next text held left NoMemory cut = tt
+
+pub is_whole : (text held left : List ℕ) (next : Next) → IsCut text next held left → IsWhole text next held left
+is_whole text held left (Request asked) cut = cut
+is_whole text held left (Last asked) cut = (cut.0, cut.2)
+is_whole text held left (Broken index) cut = (cut.0, cut.2)
+is_whole text held left End cut = tt
+is_whole text held left Failed cut = tt
+is_whole text held left NoMemory cut = cut
+
+pub is_in_turn : (text held left : List ℕ) (next : Next) → IsCut text next held left → IsInTurn text next (held ++ left)
+is_in_turn text held left (Request asked) cut = turns-first text (Some (turn_asked asked, held ++ left)) (first_turn-whole text (turn_asked asked, held ++ left) cut)
+is_in_turn text held left (Last asked) cut = turns-first text (Some (turn_asked asked, [])) (first_turn-last text (turn_asked asked) cut.0 cut.1)
+is_in_turn text held left (Broken index) cut = turns-first text (Some (broken index, cut.1.0)) cut.1.1
+is_in_turn text held left End cut = ap turns cut.0
+is_in_turn text held left Failed cut = tt
+is_in_turn text held left NoMemory cut = tt

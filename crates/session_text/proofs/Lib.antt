@@ -1,0 +1,6 @@
+pub mod Lists
+pub mod Lines
+pub mod Wholes
+pub mod Fronts
+pub mod InTurn
+pub mod Handed
