@@ -3,7 +3,7 @@ use crate::words::read_spoken;
 use desk_model::PlainDesk;
 use site_types::{Answer, NoMemory, Request, Text};
 use std::alloc::{AllocError, Global};
-use vault_disk::{MemoryClock, MemoryMachine, MemorySource};
+use vault_disk::{Failed, MemoryClock, MemoryMachine, MemorySource, Source};
 
 fn words_of(alloc: Global, line: &str) -> Result<Vec<Text>, NoMemory> {
     let mut words = Vec::new(alloc);
@@ -36,6 +36,30 @@ fn requests_have_their_replies(rt: HostRuntime) -> Result<(), NoMemory> {
         ("bpbackup", 2, "bad request at 1\n"),
         ("bpbackup client=a/b", 2, "bad request at 1\n"),
         ("frobnicate", 2, "bad request at 0\n"),
+    ];
+    let mut machine = MemoryMachine::new(rt.alloc(), &[])?;
+    let mut sent = Vec::new(rt.alloc());
+    for (line, status, reply) in rows {
+        assert_eq!(rt; status_of(rt.alloc(), &mut machine, line)?, status);
+        sent.extend_from_slice(reply.as_bytes())?;
+        assert_eq!(rt; machine.sent(), sent.as_slice());
+    }
+    Ok(())
+}
+
+// Rows of words, the status and the reply, one after another on a new vault.
+#[test]
+fn an_image_is_restored(rt: HostRuntime) -> Result<(), NoMemory> {
+    let rows: [(&str, u8, &str); 9] = [
+        ("bprestore id=b_9", 4, "b_9 unknown\n"),
+        ("@5 bpbackup client=b", 0, "b_5\n"),
+        ("bprestore id=b_5", 0, "hello"),
+        ("@7 bprestore copy=1 id=b_5", 0, "hello"),
+        ("bprestore id=b_5 copy=2", 4, "b_5/2 unknown\n"),
+        ("bprestore id=b_6", 4, "b_6 unknown\n"),
+        ("bprestore", 2, "bad request at 1\n"),
+        ("bprestore id=b_0", 2, "bad request at 1\n"),
+        ("bprestore id=b_5 id=b_5", 2, "bad request at 2\n"),
     ];
     let mut machine = MemoryMachine::new(rt.alloc(), &[])?;
     let mut sent = Vec::new(rt.alloc());
@@ -99,6 +123,54 @@ fn a_source_or_a_clock_that_fails_is_answered(rt: HostRuntime) -> Result<(), NoM
     Ok(())
 }
 
+// A source of so many zeros, which tells nothing.
+#[derive(Drop)]
+struct Zeros {
+    left: usize,
+}
+
+impl Source for Zeros {
+    ghost use Rattle.vault_disk.specs.Input.{silent_input};
+
+    ghost input = { λ z. silent_input z.left 0 };
+
+    fn read(&mut self, into: &mut [u8]) -> Result<usize, Failed> {
+        let count = self.left.min(into.len());
+        self.left -= count;
+        Ok(count)
+    }
+}
+
+fn status_of_zeros(
+    alloc: Global,
+    machine: &mut MemoryMachine,
+    count: usize,
+) -> Result<u8, NoMemory> {
+    let words = words_of(alloc, "@1000 bpbackup client=alpha")?;
+    let mut source = Zeros { left: count };
+    let mut clock = MemoryClock::new(alloc, &[7000], &[])?;
+    Ok(run(alloc, &words, machine, &mut source, &mut clock))
+}
+
+#[test]
+fn a_payload_past_its_limit_is_refused(rt: HostRuntime) -> Result<(), NoMemory> {
+    let mut machine = MemoryMachine::new(rt.alloc(), &[])?;
+    assert_eq!(rt; status_of_zeros(rt.alloc(), &mut machine, 67_108_865)?, 15);
+    assert_eq!(rt;
+        machine.sent(),
+        b"too many bytes: 67108865 of 67108864\n".as_slice()
+    );
+    Ok(())
+}
+
+#[test]
+fn a_payload_of_the_limit_is_stored(rt: HostRuntime) -> Result<(), NoMemory> {
+    let mut machine = MemoryMachine::new(rt.alloc(), &[])?;
+    assert_eq!(rt; status_of_zeros(rt.alloc(), &mut machine, 67_108_864)?, 0);
+    assert_eq!(rt; machine.sent(), b"alpha_1000\n".as_slice());
+    Ok(())
+}
+
 fn text_of(alloc: Global, answer: &Answer) -> Result<Vec<u8>, NoMemory> {
     let mut text = Vec::new(alloc);
     answer.write_text(alloc, &mut text)?;
@@ -137,7 +209,11 @@ fn the_desk_answers_as_the_plain_program(rt: HostRuntime) -> Result<(), NoMemory
     let lines = [
         "@1000 bpbackup client=web",
         "@1000 bpbackup client=web",
+        "bprestore id=web_1001",
         "@1000 bpbackup client=db",
+        "bprestore id=db_1000 copy=1",
+        "bprestore id=db_1000 copy=2",
+        "bprestore id=web_1002",
         "@5 bpbackup client=web",
         "@250000000000 bpbackup client=a",
         "@250000000000 bpbackup client=a",
