@@ -5,3 +5,7 @@ pub mod Sending
 pub mod Obeying
 pub mod Opened
 pub mod Replying
+pub mod Framing
+pub mod Turning
+pub mod TurnLemmas
+pub mod Serving

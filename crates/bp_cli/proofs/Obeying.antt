@@ -25,20 +25,20 @@ mark_of DiskFault = fault
 mark_of _ = plain
 
 module _ (s : State) (r : Request) (payload : List ℕ) (moment : ℕ) where
-  abbrev entry_of : Answer → Entry
+  abbrev pub entry_of : Answer → Entry
   entry_of a = record { request = r; payload = payload; moment = moment; mark = mark_of a }
 
-  marked : (a : Answer) → Answered s r payload moment a → a ≡ answer_of s (entry_of a)
+  pub marked : (a : Answer) → Answered s r payload moment a → a ≡ answer_of s (entry_of a)
   marked OutOfMemory is = refl
   marked DiskFault is = refl
   marked _ is = is
 
-  before_or_after : (a : Answer) (c : Image) → StandsFor s (reached s r payload moment a) c → (stands c ≡ Some (durable s)) ⊎ EndsBy s (entry_of a) (mark_of a) c
+  pub before_or_after : (a : Answer) (c : Image) → StandsFor s (reached s r payload moment a) c → (stands c ≡ Some (durable s)) ⊎ EndsBy s (entry_of a) (mark_of a) c
   before_or_after OutOfMemory c left = inl (⊎_elim (λ was. was) (λ is. is) left)
   before_or_after DiskFault c left = inr left
   before_or_after _ c left = left
 
-  ended : (a : Answer) (new : State) (d0 d1 : Disk) → (a ≢ DiskFault → Standing d1 new) → Moved s r payload moment a new → Between s (reached s r payload moment a) d0 d1 → (c : Image) → d1.may_leave c → EndsBy s (entry_of a) (mark_of a) c
+  pub ended : (a : Answer) (new : State) (d0 d1 : Disk) → (a ≢ DiskFault → Standing d1 new) → Moved s r payload moment a new → Between s (reached s r payload moment a) d0 d1 → (c : Image) → d1.may_leave c → EndsBy s (entry_of a) (mark_of a) c
   ended OutOfMemory new d0 d1 standing moved between c left = (standing (λ z. absurd (cc z))).each c left ∙ ap (λ (x : State). Some (durable x)) moved
   ended DiskFault new d0 d1 standing moved between c left = between.left c left
   ended _ new d0 d1 standing moved between c left = (standing (λ z. absurd (cc z))).each c left ∙ ap (λ (x : State). Some (durable x)) moved

@@ -22,7 +22,7 @@ unmoved_by s e memory c needs ends = ends
 unmoved_by s e fault c needs ends = absurd needs
 
 -- where the text of what is said has to be made, the state is as before
-unmoved : (s : State) (o : Outcome) (c : Image) → NeedsMemory (said s o) → Ends s o c → stands c ≡ Some (durable s)
+pub unmoved : (s : State) (o : Outcome) (c : Image) → NeedsMemory (said s o) → Ends s o c → stands c ≡ Some (durable s)
 unmoved s (refused a) c needs ends = ends
 unmoved s (carried e) c needs ends = unmoved_by s e e.mark c needs ends
 

@@ -22,6 +22,11 @@ abbrev pub IsMoment : Option ℕ → ℕ → Ticks → Ticks → Type 0
 IsMoment (Some named) moment old new = moment ≡ named
 IsMoment None moment old new = old.tells → new.gave ≡ old.gave ++ moment ∷ []
 
+-- what was taken from the clock for a moment: nothing where it was named
+abbrev pub clock_moment : Option ℕ → ℕ → List ℕ
+clock_moment (Some named) moment = []
+clock_moment None moment = moment ∷ []
+
 abbrev pub IsLimited : Option ℕ → Type 0
 IsLimited (Some moment) = moment ≤ last_moment
 IsLimited None = Unit {0}

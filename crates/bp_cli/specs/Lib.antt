@@ -3,3 +3,4 @@ pub mod Gather
 pub mod Payload
 pub mod Causes
 pub mod Runs
+pub mod Sessions

@@ -1,9 +1,10 @@
 // What a request is given.
-ghost use Rattle.std.specs.Prelude.{◌≡◌, ◌≤◌, codes, length, IfOk, IfErr, OnErr};
+ghost use Rattle.std.specs.Prelude.{◌≡◌, ◌≤◌, ◌++◌, codes, length, None, IfOk, IfErr, OnErr};
 ghost use Rattle.vault_disk.specs.Steps.{Rose};
 ghost use Rattle.vault_disk.specs.Input.{IsSameInput};
+ghost use Rattle.vault_disk.specs.Ticks.{IsSameClock};
 ghost use Rattle.site_types.specs.Limits.{last_moment, payload_limit};
-ghost use Rattle.bp_cli.specs.Gather.{Gathers, IsLimited, IsMoment, IsTooLongOr, IsUngathered};
+ghost use Rattle.bp_cli.specs.Gather.{clock_moment, Gathers, IsLimited, IsMoment, IsTooLongOr, IsUngathered};
 
 use crate::payload::{Taken, take_given};
 use site_types::{Answer, NoMemory, Text};
@@ -38,10 +39,15 @@ fn too_long(alloc: Global) -> Answer
     }
 }
 
-fn moment_at<C: Clock>(named: Option<u64>, clock: &mut C) -> Result<u64, Failed>
+/// The moment of a request: the one that its words name, or else one of the clock.
+pub fn moment_at<C: Clock>(named: Option<u64>, clock: &mut C) -> Result<u64, Failed>
     requires limited { IsLimited named }
     ensures limit { IfOk result (λ m. m ≤ last_moment) }
     ensures moment { IfOk result (λ m. IsMoment named m (C.ticks clock.old) (C.ticks clock.new)) }
+    ensures taken { (C.ticks clock.old).tells → IfOk result (λ m. (C.ticks clock.new).gave ≡ (C.ticks clock.old).gave ++ clock_moment named m) }
+    ensures kept { (C.ticks clock.old).tells → OnErr result ((C.ticks clock.new).gave ≡ (C.ticks clock.old).gave) }
+    ensures same { IsSameClock (C.ticks clock.old) (C.ticks clock.new) }
+    ensures unnamed { OnErr result (named ≡ None) }
     ensures failed { OnErr result (Rose (C.ticks clock.old).faults (C.ticks clock.new).faults) }
 {
     match named {

@@ -1,0 +1,247 @@
+-- A session, request by request.
+use Rattle.std.proofs.Common.{◌≡◌, ◌≢◌, ◌⊎◌, inl, inr, ⊎_elim, ℕ, ◌≤◌, List, [], ◌∷◌, ◌++◌, refl, sym, ◌∙◌, ap, subst, append_assoc, arith}
+use Rattle.std.specs.Prelude.{Some, None}
+use Rattle.std.proofs.lemmas.List.{append-nil}
+use Rattle.site_types.specs.Answers.{number_of, NeedsMemory}
+use Rattle.site_types.specs.declared.answer.Answer.{Answer}
+use Rattle.site_types.specs.declared.answer.Answer.TheVariants.{OutOfMemory, BadRequest, ReadFault}
+use Rattle.vault_disk.specs.Disk.{Disk, Image, During}
+use Rattle.vault_disk.specs.Steps.{SentPart}
+use Rattle.vault_disk.specs.Input.{Input}
+use Rattle.vault_disk.specs.Ticks.{Ticks}
+use Rattle.vault_disk.proofs.Moments.{started, goes_on, weaker}
+use Rattle.session_text.specs.Turns.{Turn, request, broken, whole_turn, turns}
+use Rattle.desk_model.specs.State.{State, durable}
+use Rattle.desk_model.specs.Replay.{Mark, plain, memory, fault, Entry, stepped, marked_state}
+use Rattle.site_desk.specs.Stands.{stands, Standing}
+use Rattle.bp_cli.specs.Runs.{Outcome, refused, carried, said, EndsBy, Ends}
+use Rattle.bp_cli.specs.Sessions.{framed, after_outcome, state_after, replies, EndsAfter, CoveredSo, IsAnswerTo, Answering, moment_taken, moments_taken, IsClosing, IsOfText, last_number, last_status, Serves, CoversOne, Turns, RepliesLast}
+use Rattle.bp_cli.specs.declared.turn.Turned.{Turned}
+use Rattle.bp_cli.specs.declared.turn.Turned.TheVariants.{On, Over}
+
+-- one outcome more
+state_push : (s : State) (os : List Outcome) (o : Outcome) → state_after s (os ++ o ∷ []) ≡ after_outcome (state_after s os) o
+state_push s [] o = refl
+state_push s (p ∷ os) o = state_push (after_outcome s p) os o
+
+replies_push : (s : State) (os : List Outcome) (o : Outcome) → replies s (os ++ o ∷ []) ≡ replies s os ++ framed (said (state_after s os) o)
+replies_push s [] o = append-nil (framed (said s o))
+replies_push s (p ∷ os) o = ap (λ (l : List ℕ). framed (said s p) ++ l) (replies_push (after_outcome s p) os o) ∙ sym (append_assoc (framed (said s p)) (replies (after_outcome s p) os) (framed (said (state_after (after_outcome s p) os) o)))
+
+last_push : (s : State) (os : List Outcome) (o : Outcome) → last_number s (os ++ o ∷ []) ≡ number_of (said (state_after s os) o)
+last_push s [] o = refl
+last_push s (p ∷ []) o = refl
+last_push s (p ∷ q ∷ os) o = last_push (after_outcome s p) (q ∷ os) o
+
+ends_push : (s : State) (os : List Outcome) (o : Outcome) (c : Image) → Ends (state_after s os) o c → EndsAfter s (os ++ o ∷ []) c
+ends_push s [] o c ends = ends
+ends_push s (p ∷ []) o c ends = ends
+ends_push s (p ∷ q ∷ os) o c ends = ends_push (after_outcome s p) (q ∷ os) o c ends
+
+ends_by : (s : State) (e : Entry) (m : Mark) (c : Image) → stands c ≡ Some (durable (marked_state s e m)) → EndsBy s e m c
+ends_by s e plain c is = is
+ends_by s e memory c is = is
+ends_by s e fault c is = inl is
+
+ends_state : (s : State) (os : List Outcome) (c : Image) → stands c ≡ Some (durable (state_after s os)) → EndsAfter s os c
+ends_state s [] c is = is
+ends_state s (refused a ∷ []) c is = is
+ends_state s (carried e ∷ []) c is = ends_by s e e.mark c is
+ends_state s (p ∷ q ∷ os) c is = ends_state (after_outcome s p) (q ∷ os) c is
+
+covered_more : (s : State) (os : List Outcome) (o : Outcome) (base : List ℕ) (c : Image) (b : List ℕ) → CoveredSo s os base c b → CoveredSo s (os ++ o ∷ []) base c b
+covered_more s os o base c b covered = record {
+  done = covered.done;
+  more = covered.more ++ o ∷ [];
+  split = ap (λ (l : List Outcome). l ++ o ∷ []) covered.split ∙ append_assoc covered.done covered.more (o ∷ []);
+  ends = covered.ends;
+  rest = covered.rest;
+  sent = covered.sent;
+}
+
+answering_push : (ts : List Turn) (os : List Outcome) (words : List (List ℕ)) (payload : List ℕ) (o : Outcome) → Answering ts os → IsAnswerTo words payload o → Answering (ts ++ request words payload ∷ []) (os ++ o ∷ [])
+answering_push [] [] words payload o each to = (to, tt)
+answering_push [] (p ∷ os) words payload o each to = absurd each
+answering_push (t ∷ ts) [] words payload o each to = absurd each
+answering_push (request w q ∷ ts) (p ∷ os) words payload o each to = (each.0, answering_push ts os words payload o each.1 to)
+answering_push (broken i ∷ ts) (p ∷ os) words payload o each to = (each.0, answering_push ts os words payload o each.1 to)
+
+answering_broken : (ts : List Turn) (os : List Outcome) (index : ℕ) (o : Outcome) → Answering ts os → (o ≡ refused (BadRequest index)) ⊎ (o ≡ refused OutOfMemory) → Answering (ts ++ broken index ∷ []) (os ++ o ∷ [])
+answering_broken [] [] index o each is = (is, tt)
+answering_broken [] (p ∷ os) index o each is = absurd each
+answering_broken (t ∷ ts) [] index o each is = absurd each
+answering_broken (request w q ∷ ts) (p ∷ os) index o each is = (each.0, answering_broken ts os index o each.1 is)
+answering_broken (broken i ∷ ts) (p ∷ os) index o each is = (each.0, answering_broken ts os index o each.1 is)
+
+moments_push : (ts : List Turn) (os : List Outcome) (words : List (List ℕ)) (payload : List ℕ) (o : Outcome) → Answering ts os → moments_taken (ts ++ request words payload ∷ []) (os ++ o ∷ []) ≡ moments_taken ts os ++ moment_taken words o
+moments_push [] [] words payload o each = append-nil (moment_taken words o)
+moments_push [] (p ∷ os) words payload o each = absurd each
+moments_push (t ∷ ts) [] words payload o each = absurd each
+moments_push (request w q ∷ ts) (p ∷ os) words payload o each = ap (λ (l : List ℕ). moment_taken w p ++ l) (moments_push ts os words payload o each.1) ∙ sym (append_assoc (moment_taken w p) (moments_taken ts os) (moment_taken words o))
+moments_push (broken i ∷ ts) (p ∷ os) words payload o each = moments_push ts os words payload o each.1
+
+moments_broken : (ts : List Turn) (os : List Outcome) (index : ℕ) (o : Outcome) → Answering ts os → moments_taken (ts ++ broken index ∷ []) (os ++ o ∷ []) ≡ moments_taken ts os
+moments_broken [] [] index o each = refl
+moments_broken [] (p ∷ os) index o each = absurd each
+moments_broken (t ∷ ts) [] index o each = absurd each
+moments_broken (request w q ∷ ts) (p ∷ os) index o each = ap (λ (l : List ℕ). moment_taken w p ++ l) (moments_broken ts os index o each.1)
+moments_broken (broken i ∷ ts) (p ∷ os) index o each = moments_broken ts os index o each.1
+
+-- the requests so far
+pub record Served (s : State) (d0 d : Disk) (input0 input : Input) (held : List ℕ) (ticks0 ticks : Ticks) (state : State) : Type 0 where
+  pub answered : List Turn
+  pub outcomes : List Outcome
+  pub each : Answering answered outcomes
+  pub text : input0.tells → turns input0.left ≡ answered ++ turns (held ++ input.left)
+  pub moments : ticks0.tells → ticks.gave ≡ ticks0.gave ++ moments_taken answered outcomes
+  pub state_is : state ≡ state_after s outcomes
+  pub standing : Standing d state
+  pub sent : d.sent ≡ d0.sent ++ replies s outcomes
+  pub during : During d0 d (CoveredSo s outcomes d0.sent)
+
+-- before the first
+pub none_served : (s : State) (d : Disk) (input : Input) (held : List ℕ) (ticks : Ticks) → held ≡ [] → Standing d s → Served s d d input input held ticks ticks s
+none_served s d input held ticks new standing = record {
+  answered = [];
+  outcomes = [];
+  each = tt;
+  text = λ tells. ap (λ (h : List ℕ). turns (h ++ input.left)) (sym new);
+  moments = λ tells. sym (append-nil ticks.gave);
+  state_is = refl;
+  standing = standing;
+  sent = sym (append-nil d.sent);
+  during = started d (CoveredSo s [] d.sent);
+}
+
+-- what is so of the disk once the last of all outcomes was answered
+pub record Ended (s : State) (d0 d : Disk) (all : List Outcome) (status : ℕ) : Type 0 where
+  pub status_is : (status ≡ 0) ⊎ ((status ≡ last_number s all) ⊎ (status ≡ 20))
+  pub sent : status ≢ 20 → d.sent ≡ d0.sent ++ replies s all
+  pub part : (rest : List ℕ) × (d.sent ++ rest ≡ d0.sent ++ replies s all)
+  pub now : (c : Image) → d.may_leave c → EndsAfter s all c
+  pub during : During d0 d (CoveredSo s all d0.sent)
+
+module _ (s : State) (d0 d : Disk) (input0 input : Input) (held : List ℕ) (ticks0 ticks : Ticks) (state : State) (served : Served s d0 d input0 input held ticks0 ticks state) where
+  module _ (o : Outcome) (d' : Disk) (part : (rest : List ℕ) × (d'.sent ++ rest ≡ d.sent ++ framed (said state o))) (now : (c : Image) → d'.may_leave c → Ends state o c) (during : During d d' (CoversOne state o d.sent)) where
+    abbrev all : List Outcome
+    all = served.outcomes ++ o ∷ []
+
+    text_is : d.sent ++ framed (said state o) ≡ d0.sent ++ replies s all
+    text_is =
+        (λ i. served.sent i ++ framed (said (served.state_is i) o)) ∙ append_assoc d0.sent (replies s served.outcomes) (framed (said (state_after s served.outcomes) o))
+        ∙ ap (λ (l : List ℕ). d0.sent ++ l) (sym (replies_push s served.outcomes o))
+
+    ends_so : (c : Image) → Ends state o c → EndsAfter s all c
+    ends_so c ends = ends_push s served.outcomes o c (subst (λ (x : State). Ends x o c) served.state_is ends)
+
+    covers : (c : Image) (b : List ℕ) → CoversOne state o d.sent c b → CoveredSo s all d0.sent c b
+    covers c b = ⊎_elim
+        (λ was. record { done = served.outcomes; more = o ∷ []; split = refl; ends = ends_state s served.outcomes c (was.0 ∙ ap (λ (x : State). Some (durable x)) served.state_is); rest = []; sent = append-nil b ∙ was.1 ∙ served.sent })
+        (λ ends. record { done = all; more = []; split = sym (append-nil all); ends = ends_so c ends.0; rest = ends.1.0; sent = ends.1.1 ∙ text_is })
+
+    during_all : During d0 d' (CoveredSo s all d0.sent)
+    during_all = goes_on d0 d d' (CoveredSo s all d0.sent)
+        (weaker d0 d (CoveredSo s served.outcomes d0.sent) (CoveredSo s all d0.sent) (λ c b covered. covered_more s served.outcomes o d0.sent c b covered) served.during)
+        (weaker d d' (CoversOne state o d.sent) (CoveredSo s all d0.sent) covers during)
+
+    number_is : number_of (said state o) ≡ last_number s all
+    number_is = ap (λ (x : State). number_of (said x o)) served.state_is ∙ sym (last_push s served.outcomes o)
+
+    pub ended : (status : ℕ) → (status ≡ 20) ⊎ ((status ≡ number_of (said state o)) × (d'.sent ≡ d.sent ++ framed (said state o))) → Ended s d0 d' all status
+    ended status whole = record {
+      status_is = ⊎_elim (λ unsent. inr (inr unsent)) (λ w. inr (inl (w.0 ∙ number_is))) whole;
+      sent = λ ne. ⊎_elim (λ unsent. absurd (ne unsent)) (λ w. w.1 ∙ text_is) whole;
+      part = (part.0, part.1 ∙ text_is);
+      now = λ c left. ends_so c (now c left);
+      during = during_all;
+    }
+
+    pub ended_well : d'.sent ≡ d.sent ++ framed (said state o) → Ended s d0 d' all 0
+    ended_well whole = record {
+      status_is = inl refl;
+      sent = λ ne. whole ∙ text_is;
+      part = (part.0, part.1 ∙ text_is);
+      now = λ c left. ends_so c (now c left);
+      during = during_all;
+    }
+
+  -- one request more was answered, and the session goes on
+  pub served_more : (words : List (List ℕ)) (payload : List ℕ) (d' : Disk) (input' : Input) (held' : List ℕ) (ticks' : Ticks) (state' : State) → (input0.tells → turns (held ++ input.left) ≡ request words payload ∷ turns (held' ++ input'.left)) → (ticks0.tells → ticks.tells)
+      → Turns state words payload d d' ticks ticks' state' On → Served s d0 d' input0 input' held' ticks0 ticks' state'
+  served_more words payload d' input' held' ticks' state' text_goes tick_tells turned =
+      let o : Outcome = turned.outcome in
+      record {
+        answered = served.answered ++ request words payload ∷ [];
+        outcomes = served.outcomes ++ o ∷ [];
+        each = answering_push served.answered served.outcomes words payload o served.each turned.answer_to;
+        text = λ tells. served.text tells ∙ ap (λ (l : List Turn). served.answered ++ l) (text_goes tells) ∙ sym (append_assoc served.answered (request words payload ∷ []) (turns (held' ++ input'.left)));
+        moments = λ tells. turned.moment (tick_tells tells) ∙ ap (λ (l : List ℕ). l ++ moment_taken words o) (served.moments tells) ∙ append_assoc ticks0.gave (moments_taken served.answered served.outcomes) (moment_taken words o) ∙ ap (λ (l : List ℕ). ticks0.gave ++ l) (sym (moments_push served.answered served.outcomes words payload o served.each));
+        state_is = turned.turned.1 ∙ ap (λ (x : State). after_outcome x o) served.state_is ∙ sym (state_push s served.outcomes o);
+        standing = turned.turned.2;
+        sent = turned.turned.0 ∙ text_is o d' turned.part turned.now turned.during;
+        during = during_all o d' turned.part turned.now turned.during;
+      }
+
+  abbrev all_moments : Ticks → List Turn → List Outcome → Type 0
+  all_moments ticks' ts os = ticks0.tells → ticks'.gave ≡ ticks0.gave ++ moments_taken ts os
+
+  -- from what is known of the disk
+  serves : (d' : Disk) (input' : Input) (ticks' : Ticks) (status : ℕ) (ts : List Turn) (os closing every : List Outcome) → every ≡ os ++ closing → Answering ts os → (input0.tells → IsOfText input0.left input'.left ts closing status) → all_moments ticks' ts os → Ended s d0 d' every status
+      → Serves s d0 d' input0 input' ticks0 ticks' status
+  serves d' input' ticks' status ts os closing every every_is each text moments ended_so =
+      let e = subst (λ (l : List Outcome). Ended s d0 d' l status) every_is ended_so in
+      record { answered = ts; outcomes = os; closing = closing; each = each; text = text; moments = moments; status_is = e.status_is; sent = e.sent; part = e.part; now = e.now; during = e.during }
+
+  -- the source has ended
+  pub served_all : (input' : Input) → (input0.tells → held ++ input.left ≡ []) → Serves s d0 d input0 input' ticks0 ticks 0
+  served_all input' nothing =
+      serves d input' ticks 0 served.answered served.outcomes [] served.outcomes (sym (append-nil served.outcomes)) served.each
+      (λ tells. record { behind = []; turns_are = served.text tells ∙ ap (λ (l : List ℕ). served.answered ++ turns l) (nothing tells); closing_is = tt; whole = λ z. refl }) served.moments
+      (record {
+        status_is = inl refl;
+        sent = λ ne. served.sent;
+        part = ([], append-nil d.sent ∙ served.sent);
+        now = λ c left. ends_state s served.outcomes c (served.standing.each c left ∙ ap (λ (x : State). Some (durable x)) served.state_is);
+        during = served.during;
+      })
+
+  -- a request ended the session, or was the last
+  module _ (words : List (List ℕ)) (payload : List ℕ) (d' : Disk) (input' : Input) (behind : List ℕ) (ticks' : Ticks) (state' : State) (text_goes : input0.tells → turns (held ++ input.left) ≡ request words payload ∷ turns behind) (tick_tells : ticks0.tells → ticks.tells) where
+    by_turn : (t : Turned) (status : ℕ) (turned : Turns state words payload d d' ticks ticks' state' t) → (status ≡ 0 → input0.tells → behind ≡ []) → Ended s d0 d' (served.outcomes ++ turned.outcome ∷ []) status → Serves s d0 d' input0 input' ticks0 ticks' status
+    by_turn t status turned whole ended_so =
+        let o : Outcome = turned.outcome in
+        serves d' input' ticks' status (served.answered ++ request words payload ∷ []) (served.outcomes ++ o ∷ []) [] (served.outcomes ++ o ∷ []) (sym (append-nil (served.outcomes ++ o ∷ []))) (answering_push served.answered served.outcomes words payload o served.each turned.answer_to)
+        (λ tells. record { behind = behind; turns_are = served.text tells ∙ ap (λ (l : List Turn). served.answered ++ l) (text_goes tells) ∙ sym (append_assoc served.answered (request words payload ∷ []) (turns behind)); closing_is = tt; whole = λ z. whole z tells })
+        (λ tells. turned.moment (tick_tells tells) ∙ ap (λ (l : List ℕ). l ++ moment_taken words o) (served.moments tells) ∙ append_assoc ticks0.gave (moments_taken served.answered served.outcomes) (moment_taken words o) ∙ ap (λ (l : List ℕ). ticks0.gave ++ l) (sym (moments_push served.answered served.outcomes words payload o served.each)))
+        ended_so
+
+    pub over : (status : ℕ) → status ≢ 0 → Turns state words payload d d' ticks ticks' state' (Over status) → Serves s d0 d' input0 input' ticks0 ticks' status
+    over status ne turned = by_turn (Over status) status turned (λ z tells. absurd (ne z)) (ended turned.outcome d' turned.part turned.now turned.during status turned.turned)
+
+    pub last_done : (input0.tells → behind ≡ []) → Turns state words payload d d' ticks ticks' state' On → Serves s d0 d' input0 input' ticks0 ticks' 0
+    last_done nothing turned = by_turn On 0 turned (λ z tells. nothing tells) (ended_well turned.outcome d' turned.part turned.now turned.during turned.turned.0)
+
+    pub last_turned : (t : Turned) → (t ≢ Over 0) → (input0.tells → behind ≡ []) → Turns state words payload d d' ticks ticks' state' t → Serves s d0 d' input0 input' ticks0 ticks' (last_status t)
+    last_turned On ne nothing turned = last_done nothing turned
+    last_turned (Over status) ne nothing turned = over status (λ z. ne (ap Over z)) turned
+
+  -- an answer that ends the session and is none to a request
+  module _ (a : Answer) (d' : Disk) (status : ℕ) (last : RepliesLast a d d' status) where
+    pub closing_ended : Ended s d0 d' (served.outcomes ++ refused last.sent ∷ []) status
+    closing_ended =
+        let whole_of : (b : List ℕ) (p : SentPart d.sent (framed last.sent) b) → b ++ p.rest ≡ d.sent ++ framed last.sent = λ b p. ap (λ (l : List ℕ). l ++ p.rest) p.is ∙ append_assoc d.sent p.part p.rest ∙ ap (λ (l : List ℕ). d.sent ++ l) (sym p.split) in
+        ended (refused last.sent) d' (last.part.rest, whole_of d'.sent last.part) (λ c left. served.standing.each c (last.rests.left c left))
+        (weaker d d' (λ c b. d.may_leave c × SentPart d.sent (framed last.sent) b) (CoversOne state (refused last.sent) d.sent) (λ c b now. inr (served.standing.each c now.0, (now.1.rest, whole_of b now.1))) last.during)
+        status last.whole
+
+    pub closed : (input' : Input) (behind : List ℕ) → (input0.tells → (behind ≡ held ++ input.left) × IsClosing behind input'.left (refused last.sent ∷ [])) → (status ≢ 0) → Serves s d0 d' input0 input' ticks0 ticks status
+    closed input' behind closing ne =
+        serves d' input' ticks status served.answered served.outcomes (refused last.sent ∷ []) (served.outcomes ++ refused last.sent ∷ []) refl served.each
+        (λ tells. record { behind = behind; turns_are = served.text tells ∙ ap (λ (l : List ℕ). served.answered ++ turns l) (sym (closing tells).0); closing_is = (closing tells).1; whole = λ z. absurd (ne z) }) served.moments closing_ended
+
+    pub broken_off : (input' : Input) (index : ℕ) → a ≡ BadRequest index → (input0.tells → turns (held ++ input.left) ≡ broken index ∷ []) → (status ≢ 0) → Serves s d0 d' input0 input' ticks0 ticks status
+    broken_off input' index a_is text_goes ne =
+        let is : (refused last.sent ≡ refused (BadRequest index)) ⊎ (refused last.sent ≡ refused OutOfMemory) = ⊎_elim (λ same. inl (ap refused (same ∙ a_is))) (λ out. inr (ap refused out.0)) last.is in
+        serves d' input' ticks status (served.answered ++ broken index ∷ []) (served.outcomes ++ refused last.sent ∷ []) [] (served.outcomes ++ refused last.sent ∷ []) (sym (append-nil (served.outcomes ++ refused last.sent ∷ []))) (answering_broken served.answered served.outcomes index (refused last.sent) served.each is)
+        (λ tells. record { behind = []; turns_are = served.text tells ∙ ap (λ (l : List Turn). served.answered ++ l) (text_goes tells) ∙ sym (append-nil (served.answered ++ broken index ∷ [])); closing_is = tt; whole = λ z. refl })
+        (λ tells. served.moments tells ∙ ap (λ (l : List ℕ). ticks0.gave ++ l) (sym (moments_broken served.answered served.outcomes index (refused last.sent) served.each))) closing_ended

@@ -1,0 +1,229 @@
+-- A session: each request of its text is answered in turn, with a framed reply.
+use Rattle.std.specs.Prelude.{◌≡◌, ◌≢◌, ◌⊎◌, ℕ, Bool, true, false, ◌||◌, ◌==◌, if◌then◌else◌, List, [], ◌∷◌, ◌++◌, length, Option, Some, None, Result, Ok, Err, IfOk}
+use Rattle.std.specs.Fmt.{decimal}
+use Rattle.site_types.specs.Answers.{number_of, text_of, NeedsMemory}
+use Rattle.site_types.specs.Requests.{takes_payload}
+use Rattle.site_types.specs.declared.answer.Answer.{Answer}
+use Rattle.site_types.specs.declared.answer.Answer.TheVariants.{OutOfMemory, BadRequest, DiskFault, ReadFault, ClockFault, NotAVault}
+use Rattle.site_types.specs.declared.request.WordFault.{WordFault}
+use Rattle.site_types.specs.declared.request.WordFault.TheVariants as words
+use Rattle.vault_disk.specs.Disk.{Disk, Image, During}
+use Rattle.vault_disk.specs.Steps.{Rests, SentPart, Sends}
+use Rattle.vault_disk.specs.Input.{Input}
+use Rattle.vault_disk.specs.Ticks.{Ticks}
+use Rattle.session_text.specs.Turns.{Turn, request, broken, whole_turn, turns}
+use Rattle.desk_model.specs.State.{State, durable}
+use Rattle.desk_model.specs.Replay.{Entry, after}
+use Rattle.site_desk.specs.Stands.{opened, stands, Standing}
+use Rattle.bp_cli.specs.Words.{is_moment, spoken}
+use Rattle.bp_cli.specs.Runs.{Outcome, refused, carried, said, Ends}
+use Rattle.bp_cli.specs.declared.turn.Turned.{Turned}
+use Rattle.bp_cli.specs.declared.turn.Turned.TheVariants.{On, Over}
+use Rattle.bp_cli.specs.declared.words.Spoken.{Spoken}
+
+-- a reply with its frame: the answer's number, a space, the length of its text, a line feed, and the text
+abbrev pub frame : ℕ → List ℕ → List ℕ
+frame number text = decimal number ++ 32 ∷ (decimal (length text) ++ 10 ∷ text)
+
+abbrev pub framed : Answer → List ℕ
+framed a = frame (number_of a) (text_of a)
+
+-- the state after each of these was answered
+abbrev pub after_outcome : State → Outcome → State
+after_outcome s (refused a) = s
+after_outcome s (carried e) = after s e
+
+abbrev pub state_after : State → List Outcome → State
+state_after s [] = s
+state_after s (o ∷ os) = state_after (after_outcome s o) os
+
+-- their replies, one behind the other
+abbrev pub replies : State → List Outcome → List ℕ
+replies s [] = []
+replies s (o ∷ os) = framed (said s o) ++ replies (after_outcome s o) os
+
+-- the image stands for the state after them; only the last may have met a fault
+abbrev pub EndsAfter : State → List Outcome → Image → Type 0
+EndsAfter s [] c = stands c ≡ Some (durable s)
+EndsAfter s (o ∷ []) c = Ends s o c
+EndsAfter s (o ∷ p ∷ os) c = EndsAfter (after_outcome s o) (p ∷ os) c
+
+-- A stop leaves the state after the first of them, and at most the replies to these were sent.
+pub record CoveredSo (s : State) (os : List Outcome) (base : List ℕ) (c : Image) (b : List ℕ) : Type 0 where
+  pub done : List Outcome
+  pub more : List Outcome
+  pub split : os ≡ done ++ more
+  pub ends : EndsAfter s done c
+  pub rest : List ℕ
+  pub sent : b ++ rest ≡ base ++ replies s done
+
+-- what a request of a session asks for, or the index of its bad word: a payload for a form that takes none is a bad word too, the last one
+abbrev pub is_none_given : List ℕ → Bool
+is_none_given [] = true
+is_none_given (b ∷ bs) = false
+
+abbrev pub with_payload : Result Spoken ℕ → List ℕ → ℕ → Result Spoken ℕ
+with_payload (Ok asked) payload count = if takes_payload asked.request || is_none_given payload then Ok asked else Err count
+with_payload (Err index) payload count = Err index
+
+abbrev pub turn_spoken : List (List ℕ) → List ℕ → Result Spoken ℕ
+turn_spoken words payload = with_payload (spoken words) payload (length words)
+
+-- the moment is the one that the words name, where they name one
+abbrev pub IsNamed : Option ℕ → ℕ → Type 0
+IsNamed (Some named) moment = moment ≡ named
+IsNamed None moment = Unit {0}
+
+-- a request was carried out as its words ask
+pub record IsCarriedOut (words : List (List ℕ)) (payload : List ℕ) (e : Entry) : Type 0 where
+  pub asked : Spoken
+  pub words_ask : turn_spoken words payload ≡ Ok asked
+  pub request_is : e.request ≡ asked.request
+  pub payload_is : e.payload ≡ payload
+  pub moment_is : IsNamed asked.moment e.moment
+
+-- its words are good, and name no moment
+pub record WantsMoment (words : List (List ℕ)) (payload : List ℕ) : Type 0 where
+  pub asked : Spoken
+  pub words_ask : turn_spoken words payload ≡ Ok asked
+  pub unnamed : asked.moment ≡ None
+
+-- how a request is answered
+abbrev pub IsAnswerTo : List (List ℕ) → List ℕ → Outcome → Type 0
+IsAnswerTo words payload (refused OutOfMemory) = Unit {0}
+IsAnswerTo words payload (refused (BadRequest index)) = turn_spoken words payload ≡ Err index
+IsAnswerTo words payload (refused ClockFault) = WantsMoment words payload
+IsAnswerTo words payload (refused _) = ⊥
+IsAnswerTo words payload (carried e) = IsCarriedOut words payload e
+
+-- each turn has its answer
+abbrev pub Answering : List Turn → List Outcome → Type 0
+Answering [] [] = Unit {0}
+Answering [] (o ∷ os) = ⊥
+Answering (t ∷ ts) [] = ⊥
+Answering (request words payload ∷ ts) (o ∷ os) = IsAnswerTo words payload o × Answering ts os
+Answering (broken index ∷ ts) (o ∷ os) = ((o ≡ refused (BadRequest index)) ⊎ (o ≡ refused OutOfMemory)) × Answering ts os
+
+-- the moments that were taken from the clock: of requests that were carried out and name none
+abbrev pub names_moment : List (List ℕ) → Bool
+names_moment [] = false
+names_moment (word ∷ words) = is_moment word
+
+abbrev pub moment_taken : List (List ℕ) → Outcome → List ℕ
+moment_taken words (refused a) = []
+moment_taken words (carried e) = if names_moment words then [] else e.moment ∷ []
+
+abbrev pub moments_taken : List Turn → List Outcome → List ℕ
+moments_taken (request words payload ∷ ts) (o ∷ os) = moment_taken words o ++ moments_taken ts os
+moments_taken (broken index ∷ ts) (o ∷ os) = moments_taken ts os
+moments_taken _ _ = []
+
+-- What ends a session and is no answer to a turn: a read that failed, where what the source gave holds no whole turn more; or want of memory.
+abbrev pub IsClosing : List ℕ → List ℕ → List Outcome → Type 0
+IsClosing behind left [] = Unit {0}
+IsClosing behind left (refused OutOfMemory ∷ []) = Unit {0}
+IsClosing behind left (refused ReadFault ∷ []) = (held : List ℕ) × (behind ≡ held ++ left) × (whole_turn held ≡ None)
+IsClosing behind left _ = ⊥
+
+-- the turns that were answered are the first of the text, and all of them where the status is 0
+pub record IsOfText (text left : List ℕ) (ts : List Turn) (closing : List Outcome) (status : ℕ) : Type 0 where
+  pub behind : List ℕ
+  pub turns_are : turns text ≡ ts ++ turns behind
+  pub closing_is : IsClosing behind left closing
+  pub whole : status ≡ 0 → behind ≡ []
+
+-- the number of the last answer
+abbrev pub last_number : State → List Outcome → ℕ
+last_number s [] = 0
+last_number s (o ∷ []) = number_of (said s o)
+last_number s (o ∷ p ∷ os) = last_number (after_outcome s o) (p ∷ os)
+
+-- What came of a session from a state: the turns that were answered and their outcomes, and what ended it. What is sent are the model's replies, or their first bytes
+-- where a send failed; the status is 0 where the input was read to its end, else the number of the last answer, or 20 where a send failed.
+pub record Serves (s : State) (disk disk' : Disk) (input input' : Input) (ticks ticks' : Ticks) (status : ℕ) : Type 0 where
+  pub answered : List Turn
+  pub outcomes : List Outcome
+  pub closing : List Outcome
+  pub each : Answering answered outcomes
+  pub text : input.tells → IsOfText input.left input'.left answered closing status
+  pub moments : ticks.tells → ticks'.gave ≡ ticks.gave ++ moments_taken answered outcomes
+  pub status_is : (status ≡ 0) ⊎ ((status ≡ last_number s (outcomes ++ closing)) ⊎ (status ≡ 20))
+  pub sent : status ≢ 20 → disk'.sent ≡ disk.sent ++ replies s (outcomes ++ closing)
+  pub part : (rest : List ℕ) × (disk'.sent ++ rest ≡ disk.sent ++ replies s (outcomes ++ closing))
+  pub now : (c : Image) → disk'.may_leave c → EndsAfter s (outcomes ++ closing) c
+  pub during : During disk disk' (CoveredSo s (outcomes ++ closing) disk.sent)
+
+-- a request of a session was answered on a desk with this state, and nothing is sent yet
+pub record Takes (s : State) (words : List (List ℕ)) (payload : List ℕ) (disk disk' : Disk) (ticks ticks' : Ticks) (a : Answer) (state : State) : Type 0 where
+  pub outcome : Outcome
+  pub answer_to : IsAnswerTo words payload outcome
+  pub moment : ticks.tells → ticks'.gave ≡ ticks.gave ++ moment_taken words outcome
+  pub is : a ≡ said s outcome
+  pub now : (c : Image) → disk'.may_leave c → Ends s outcome c
+  pub during : During disk disk' (λ c b. ((stands c ≡ Some (durable s)) ⊎ Ends s outcome c) × (b ≡ disk.sent))
+  pub moves : a ≢ DiskFault → (state ≡ after_outcome s outcome) × Standing disk' state
+
+-- the answer to a request; want of memory where none was left for reading its words
+abbrev pub answer_in : Option Answer → Answer
+answer_in None = OutOfMemory
+answer_in (Some answer) = answer
+
+-- what is answered to words that ask for nothing; none where no memory was left for reading them
+abbrev pub unheard : WordFault → Option Answer
+unheard (words.Bad index) = Some (BadRequest index)
+unheard words.NoMemory = None
+
+-- an answer was sent with its frame; where no memory is left for its text it is want of memory
+pub record RepliesFramed (a : Answer) (old new : Disk) {E : Type 0} (result : Result ℕ E) : Type 0 where
+  pub sent : Answer
+  pub is : (sent ≡ a) ⊎ ((sent ≡ OutOfMemory) × NeedsMemory a)
+  pub sends : Sends (framed sent) old new result
+  pub number : IfOk result (λ n. n ≡ number_of sent)
+
+-- a request of a session was answered and its reply sent, or a first part of that; the session goes on, or it is over
+abbrev pub IsTurned : State → Outcome → Disk → Disk → State → Turned → Type 0
+IsTurned s o disk disk' state On = (disk'.sent ≡ disk.sent ++ framed (said s o)) × (state ≡ after_outcome s o) × Standing disk' state
+IsTurned s o disk disk' state (Over status) = (status ≡ 20) ⊎ ((status ≡ number_of (said s o)) × (disk'.sent ≡ disk.sent ++ framed (said s o)))
+
+-- before a request the disk stands for the state before it and nothing of its reply is sent; afterwards for the one in which it ends, and at most its reply is
+abbrev pub CoversOne : State → Outcome → List ℕ → Image → List ℕ → Type 0
+CoversOne s o base c b = ((stands c ≡ Some (durable s)) × (b ≡ base)) ⊎ (Ends s o c × ((rest : List ℕ) × (b ++ rest ≡ base ++ framed (said s o))))
+
+pub record Turns (s : State) (words : List (List ℕ)) (payload : List ℕ) (disk disk' : Disk) (ticks ticks' : Ticks) (state : State) (t : Turned) : Type 0 where
+  pub outcome : Outcome
+  pub answer_to : IsAnswerTo words payload outcome
+  pub moment : ticks.tells → ticks'.gave ≡ ticks.gave ++ moment_taken words outcome
+  pub now : (c : Image) → disk'.may_leave c → Ends s outcome c
+  pub part : (rest : List ℕ) × (disk'.sent ++ rest ≡ disk.sent ++ framed (said s outcome))
+  pub during : During disk disk' (CoversOne s outcome disk.sent)
+  pub turned : IsTurned s outcome disk disk' state t
+
+-- a fault of the disk, the source or the clock ends a session
+abbrev pub is_over : ℕ → Bool
+is_over number = number == 18 || number == 19 || number == 21
+
+abbrev pub IsWholeReply : Answer → Disk → Disk → Turned → Type 0
+IsWholeReply sent old new On = new.sent ≡ old.sent ++ framed sent
+IsWholeReply sent old new (Over status) = (status ≡ 20) ⊎ ((status ≡ number_of sent) × (new.sent ≡ old.sent ++ framed sent))
+
+-- an answer was sent with its frame, or want of memory in its place, and whether the session goes on behind it; status 20 where the send failed
+pub record RepliesOn (a : Answer) (old new : Disk) (t : Turned) : Type 0 where
+  pub sent : Answer
+  pub is : (sent ≡ a) ⊎ ((sent ≡ OutOfMemory) × NeedsMemory a)
+  pub rests : Rests old new
+  pub during : During old new (λ c b. old.may_leave c × SentPart old.sent (framed sent) b)
+  pub part : SentPart old.sent (framed sent) new.sent
+  pub whole : IsWholeReply sent old new t
+
+pub record RepliesLast (a : Answer) (old new : Disk) (status : ℕ) : Type 0 where
+  pub sent : Answer
+  pub is : (sent ≡ a) ⊎ ((sent ≡ OutOfMemory) × NeedsMemory a)
+  pub rests : Rests old new
+  pub during : During old new (λ c b. old.may_leave c × SentPart old.sent (framed sent) b)
+  pub part : SentPart old.sent (framed sent) new.sent
+  pub whole : (status ≡ 20) ⊎ ((status ≡ number_of sent) × (new.sent ≡ old.sent ++ framed sent))
+
+-- the status of a session behind its last request
+abbrev pub last_status : Turned → ℕ
+last_status On = 0
+last_status (Over status) = status
