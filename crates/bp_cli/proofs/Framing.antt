@@ -1,8 +1,11 @@
 -- Two sends, one after the other.
-use Rattle.std.proofs.Common.{◌≡◌, ℕ, ◌≤◌, List, [], ◌∷◌, ◌++◌, sym, ◌∙◌, ap, arith, append_assoc}
-use Rattle.std.specs.Prelude.{Result, Ok, Err, OnOk}
-use Rattle.vault_disk.specs.Disk.{Disk, Image}
+use Rattle.std.proofs.Common.{◌≡◌, ℕ, List, [], ◌∷◌, ◌++◌, sym, ◌∙◌, ap, arith, append_assoc, refl}
+use Rattle.std.specs.Prelude.{Result, Ok, Err, OnOk, codes}
+use Rattle.std.specs.Fmt.{digits}
+use Rattle.site_types.specs.declared.answer.Answer.TheVariants.{OutOfMemory, DiskFault}
+use Rattle.vault_disk.specs.Disk.{Disk}
 use Rattle.vault_disk.specs.Steps.{SentPart, Sends}
+use Rattle.bp_cli.specs.Sessions.{framed}
 use Rattle.vault_disk.proofs.Moments.{goes_on, weaker}
 
 pub frame_split : (a b text : List ℕ) → a ++ 32 ∷ (b ++ 10 ∷ text) ≡ (a ++ 32 ∷ (b ++ 10 ∷ [])) ++ text
@@ -51,3 +54,12 @@ module _ (head text all : List ℕ) (all_is : all ≡ head ++ text) (old mid : D
       whole : (x : Result T E) → OnOk x (new.sent ≡ mid.sent ++ text) → OnOk x (new.sent ≡ old.sent ++ all)
       whole (Ok w) is = is ∙ ap (λ (l : List ℕ). l ++ text) first.sent ∙ append_assoc old.sent head text ∙ ap (λ (l : List ℕ). old.sent ++ l) (sym all_is)
       whole (Err e) is = tt
+
+-- the frames of the two answers that are sent without memory
+pub frame_of_memory : codes "1 14\n" ++ codes "out of memory\n" ≡ framed OutOfMemory
+unfolding digits
+frame_of_memory = refl
+
+pub frame_of_fault : codes "18 11\n" ++ codes "disk fault\n" ≡ framed DiskFault
+unfolding digits
+frame_of_fault = refl

@@ -9,7 +9,7 @@ use Rattle.site_types.specs.declared.request.WordFault.TheVariants as word
 use Rattle.vault_disk.specs.Disk.{Disk, Image, During}
 use Rattle.vault_disk.specs.Input.{Input}
 use Rattle.vault_disk.specs.Ticks.{Ticks}
-use Rattle.vault_disk.proofs.Moments.{started, goes_on}
+use Rattle.vault_disk.proofs.Moments.{started, goes_on, weaker}
 use Rattle.pool_journal.specs.declared.fault.JournalFault.{JournalFault}
 use Rattle.pool_journal.specs.declared.fault.JournalFault.TheVariants as journal
 use Rattle.desk_model.specs.State.{State, durable}
@@ -19,7 +19,7 @@ use Rattle.bp_cli.specs.Words.{spoken, IsSpoken}
 use Rattle.bp_cli.specs.Runs.{Outcome, refused, carried, IsAsked, IsObeyed, Ends, Obeys, Answers, refusal_of, word_refusal_of}
 use Rattle.bp_cli.specs.declared.words.Spoken.{Spoken}
 
-some_same : (a b : State) → Some a ≡ Some b → a ≡ b
+pub some_same : (a b : State) → Some a ≡ Some b → a ≡ b
 some_same a b e = cc
 
 asked_of : (words : List (List ℕ)) (asked : Spoken) (seen : Image) (input input' : Input) (ticks ticks' : Ticks) (o : Outcome) → spoken words ≡ Ok asked → IsObeyed asked input input' ticks ticks' o → IsAsked words seen input input' ticks ticks' o
@@ -51,8 +51,14 @@ answers_untouched s words d input input' ticks ticks' a asked standing = record 
 
 module _ (s : State) (words : List (List ℕ)) (d0 d1 : Disk) (standing : Standing d0 s) (reads : d0.may_leave d0.seen)
     (opens : Opens d0 d1) (sent : d1.sent ≡ d0.sent) where
-  at_start : (c : Image) → d0.may_leave c ⊎ (stands c ≡ stands d0.seen) → stands c ≡ Some (durable s)
+  pub at_start : (c : Image) → d0.may_leave c ⊎ (stands c ≡ stands d0.seen) → stands c ≡ Some (durable s)
   at_start c = ⊎_elim (standing.each c) (λ same. same ∙ standing.each d0.seen reads)
+
+  pub all_at_start : During d0 d1 (λ c b. (stands c ≡ Some (durable s)) × (b ≡ d0.sent))
+  all_at_start = weaker d0 d1 (λ c b. (d0.may_leave c ⊎ (stands c ≡ stands d0.seen)) × (b ≡ d0.sent)) (λ c b. (stands c ≡ Some (durable s)) × (b ≡ d0.sent)) (λ c b left. (at_start c left.0, left.1)) opens.during
+
+  pub state_opened : (state : State) → opened d0.seen ≡ Ok state → state ≡ durable s
+  state_opened state state_is = some_same state (durable s) (sym (ap (λ (r : Result State ℕ). result_ok r) state_is) ∙ standing.each d0.seen reads)
 
   opening : (o : Outcome) → During d0 d1 (λ c b. ((stands c ≡ Some (durable s)) ⊎ Ends (durable s) o c) × (b ≡ d0.sent))
   opening o = record {

@@ -1,21 +1,25 @@
 -- A session, request by request.
-use Rattle.std.proofs.Common.{◌≡◌, ◌≢◌, ◌⊎◌, inl, inr, ⊎_elim, ℕ, ◌≤◌, List, [], ◌∷◌, ◌++◌, refl, sym, ◌∙◌, ap, subst, append_assoc, arith}
-use Rattle.std.specs.Prelude.{Some, None}
+use Rattle.std.proofs.Common.{◌≡◌, ◌≢◌, ◌⊎◌, inl, inr, ⊎_elim, ℕ, List, [], ◌∷◌, ◌++◌, refl, sym, ◌∙◌, ap, subst, append_assoc, arith}
+use Rattle.std.specs.Prelude.{Some, Result, Ok, Err, MatchResult, OnOk}
+use Rattle.std.specs.Borrow.{GName}
 use Rattle.std.proofs.lemmas.List.{append-nil}
 use Rattle.site_types.specs.Answers.{number_of, NeedsMemory}
 use Rattle.site_types.specs.declared.answer.Answer.{Answer}
-use Rattle.site_types.specs.declared.answer.Answer.TheVariants.{OutOfMemory, BadRequest, ReadFault}
+use Rattle.site_types.specs.declared.answer.Answer.TheVariants.{OutOfMemory, BadRequest}
 use Rattle.vault_disk.specs.Disk.{Disk, Image, During}
 use Rattle.vault_disk.specs.Steps.{SentPart}
 use Rattle.vault_disk.specs.Input.{Input}
 use Rattle.vault_disk.specs.Ticks.{Ticks}
 use Rattle.vault_disk.proofs.Moments.{started, goes_on, weaker}
-use Rattle.session_text.specs.Turns.{Turn, request, broken, whole_turn, turns}
+use Rattle.session_text.specs.Turns.{Turn, request, broken, turns}
+use Rattle.pool_journal.specs.declared.fault.JournalFault.{JournalFault}
+use Rattle.pool_journal.specs.declared.fault.JournalFault.TheVariants as journal
 use Rattle.desk_model.specs.State.{State, durable}
-use Rattle.desk_model.specs.Replay.{Mark, plain, memory, fault, Entry, stepped, marked_state}
-use Rattle.site_desk.specs.Stands.{stands, Standing}
-use Rattle.bp_cli.specs.Runs.{Outcome, refused, carried, said, EndsBy, Ends}
-use Rattle.bp_cli.specs.Sessions.{framed, after_outcome, state_after, replies, EndsAfter, CoveredSo, IsAnswerTo, Answering, moment_taken, moments_taken, IsClosing, IsOfText, last_number, last_status, Serves, CoversOne, Turns, RepliesLast}
+use Rattle.desk_model.specs.Replay.{Mark, plain, memory, fault, Entry, marked_state}
+use Rattle.site_desk.specs.Desk.{IsFaultOf}
+use Rattle.site_desk.specs.Stands.{opened, stands, Standing}
+use Rattle.bp_cli.specs.Runs.{Outcome, refused, carried, said, EndsBy, Ends, refusal_of}
+use Rattle.bp_cli.specs.Sessions.{framed, after_outcome, state_after, replies, EndsAfter, CoveredSo, IsAnswerTo, Answering, moment_taken, moments_taken, IsClosing, IsOfText, IsOfVault, last_number, last_status, Serves, CoversOne, Turns, RanSession, RepliesLast, RepliesUnopened}
 use Rattle.bp_cli.specs.declared.turn.Turned.{Turned}
 use Rattle.bp_cli.specs.declared.turn.Turned.TheVariants.{On, Over}
 
@@ -121,7 +125,11 @@ pub record Ended (s : State) (d0 d : Disk) (all : List Outcome) (status : ℕ) :
   pub now : (c : Image) → d.may_leave c → EndsAfter s all c
   pub during : During d0 d (CoveredSo s all d0.sent)
 
-module _ (s : State) (d0 d : Disk) (input0 input : Input) (held : List ℕ) (ticks0 ticks : Ticks) (state : State) (served : Served s d0 d input0 input held ticks0 ticks state) where
+-- any result of an opening, where none is spoken of
+abbrev pub any_found : Result State ℕ
+any_found = Err 0
+
+module _ (found : Result State ℕ) (s : State) (d0 d : Disk) (input0 input : Input) (held : List ℕ) (ticks0 ticks : Ticks) (state : State) (served : Served s d0 d input0 input held ticks0 ticks state) where
   module _ (o : Outcome) (d' : Disk) (part : (rest : List ℕ) × (d'.sent ++ rest ≡ d.sent ++ framed (said state o))) (now : (c : Image) → d'.may_leave c → Ends state o c) (during : During d d' (CoversOne state o d.sent)) where
     abbrev all : List Outcome
     all = served.outcomes ++ o ∷ []
@@ -186,16 +194,16 @@ module _ (s : State) (d0 d : Disk) (input0 input : Input) (held : List ℕ) (tic
   all_moments ticks' ts os = ticks0.tells → ticks'.gave ≡ ticks0.gave ++ moments_taken ts os
 
   -- from what is known of the disk
-  serves : (d' : Disk) (input' : Input) (ticks' : Ticks) (status : ℕ) (ts : List Turn) (os closing every : List Outcome) → every ≡ os ++ closing → Answering ts os → (input0.tells → IsOfText input0.left input'.left ts closing status) → all_moments ticks' ts os → Ended s d0 d' every status
-      → Serves s d0 d' input0 input' ticks0 ticks' status
-  serves d' input' ticks' status ts os closing every every_is each text moments ended_so =
+  serves : (d' : Disk) (input' : Input) (ticks' : Ticks) (status : ℕ) (ts : List Turn) (os closing every : List Outcome) → every ≡ os ++ closing → Answering ts os → IsOfVault found closing → (input0.tells → IsOfText input0.left input'.left ts closing status) → all_moments ticks' ts os → Ended s d0 d' every status
+      → Serves found s d0 d' input0 input' ticks0 ticks' status
+  serves d' input' ticks' status ts os closing every every_is each vault text moments ended_so =
       let e = subst (λ (l : List Outcome). Ended s d0 d' l status) every_is ended_so in
-      record { answered = ts; outcomes = os; closing = closing; each = each; text = text; moments = moments; status_is = e.status_is; sent = e.sent; part = e.part; now = e.now; during = e.during }
+      record { answered = ts; outcomes = os; closing = closing; each = each; vault = vault; text = text; moments = moments; status_is = e.status_is; sent = e.sent; part = e.part; now = e.now; during = e.during }
 
   -- the source has ended
-  pub served_all : (input' : Input) → (input0.tells → held ++ input.left ≡ []) → Serves s d0 d input0 input' ticks0 ticks 0
+  pub served_all : (input' : Input) → (input0.tells → held ++ input.left ≡ []) → Serves found s d0 d input0 input' ticks0 ticks 0
   served_all input' nothing =
-      serves d input' ticks 0 served.answered served.outcomes [] served.outcomes (sym (append-nil served.outcomes)) served.each
+      serves d input' ticks 0 served.answered served.outcomes [] served.outcomes (sym (append-nil served.outcomes)) served.each tt
       (λ tells. record { behind = []; turns_are = served.text tells ∙ ap (λ (l : List ℕ). served.answered ++ turns l) (nothing tells); closing_is = tt; whole = λ z. refl }) served.moments
       (record {
         status_is = inl refl;
@@ -207,21 +215,21 @@ module _ (s : State) (d0 d : Disk) (input0 input : Input) (held : List ℕ) (tic
 
   -- a request ended the session, or was the last
   module _ (words : List (List ℕ)) (payload : List ℕ) (d' : Disk) (input' : Input) (behind : List ℕ) (ticks' : Ticks) (state' : State) (text_goes : input0.tells → turns (held ++ input.left) ≡ request words payload ∷ turns behind) (tick_tells : ticks0.tells → ticks.tells) where
-    by_turn : (t : Turned) (status : ℕ) (turned : Turns state words payload d d' ticks ticks' state' t) → (status ≡ 0 → input0.tells → behind ≡ []) → Ended s d0 d' (served.outcomes ++ turned.outcome ∷ []) status → Serves s d0 d' input0 input' ticks0 ticks' status
+    by_turn : (t : Turned) (status : ℕ) (turned : Turns state words payload d d' ticks ticks' state' t) → (status ≡ 0 → input0.tells → behind ≡ []) → Ended s d0 d' (served.outcomes ++ turned.outcome ∷ []) status → Serves found s d0 d' input0 input' ticks0 ticks' status
     by_turn t status turned whole ended_so =
         let o : Outcome = turned.outcome in
-        serves d' input' ticks' status (served.answered ++ request words payload ∷ []) (served.outcomes ++ o ∷ []) [] (served.outcomes ++ o ∷ []) (sym (append-nil (served.outcomes ++ o ∷ []))) (answering_push served.answered served.outcomes words payload o served.each turned.answer_to)
+        serves d' input' ticks' status (served.answered ++ request words payload ∷ []) (served.outcomes ++ o ∷ []) [] (served.outcomes ++ o ∷ []) (sym (append-nil (served.outcomes ++ o ∷ []))) (answering_push served.answered served.outcomes words payload o served.each turned.answer_to) tt
         (λ tells. record { behind = behind; turns_are = served.text tells ∙ ap (λ (l : List Turn). served.answered ++ l) (text_goes tells) ∙ sym (append_assoc served.answered (request words payload ∷ []) (turns behind)); closing_is = tt; whole = λ z. whole z tells })
         (λ tells. turned.moment (tick_tells tells) ∙ ap (λ (l : List ℕ). l ++ moment_taken words o) (served.moments tells) ∙ append_assoc ticks0.gave (moments_taken served.answered served.outcomes) (moment_taken words o) ∙ ap (λ (l : List ℕ). ticks0.gave ++ l) (sym (moments_push served.answered served.outcomes words payload o served.each)))
         ended_so
 
-    pub over : (status : ℕ) → status ≢ 0 → Turns state words payload d d' ticks ticks' state' (Over status) → Serves s d0 d' input0 input' ticks0 ticks' status
+    pub over : (status : ℕ) → status ≢ 0 → Turns state words payload d d' ticks ticks' state' (Over status) → Serves found s d0 d' input0 input' ticks0 ticks' status
     over status ne turned = by_turn (Over status) status turned (λ z tells. absurd (ne z)) (ended turned.outcome d' turned.part turned.now turned.during status turned.turned)
 
-    pub last_done : (input0.tells → behind ≡ []) → Turns state words payload d d' ticks ticks' state' On → Serves s d0 d' input0 input' ticks0 ticks' 0
+    pub last_done : (input0.tells → behind ≡ []) → Turns state words payload d d' ticks ticks' state' On → Serves found s d0 d' input0 input' ticks0 ticks' 0
     last_done nothing turned = by_turn On 0 turned (λ z tells. nothing tells) (ended_well turned.outcome d' turned.part turned.now turned.during turned.turned.0)
 
-    pub last_turned : (t : Turned) → (t ≢ Over 0) → (input0.tells → behind ≡ []) → Turns state words payload d d' ticks ticks' state' t → Serves s d0 d' input0 input' ticks0 ticks' (last_status t)
+    pub last_turned : (t : Turned) → (t ≢ Over 0) → (input0.tells → behind ≡ []) → Turns state words payload d d' ticks ticks' state' t → Serves found s d0 d' input0 input' ticks0 ticks' (last_status t)
     last_turned On ne nothing turned = last_done nothing turned
     last_turned (Over status) ne nothing turned = over status (λ z. ne (ap Over z)) turned
 
@@ -234,14 +242,116 @@ module _ (s : State) (d0 d : Disk) (input0 input : Input) (held : List ℕ) (tic
         (weaker d d' (λ c b. d.may_leave c × SentPart d.sent (framed last.sent) b) (CoversOne state (refused last.sent) d.sent) (λ c b now. inr (served.standing.each c now.0, (now.1.rest, whole_of b now.1))) last.during)
         status last.whole
 
-    pub closed : (input' : Input) (behind : List ℕ) → (input0.tells → (behind ≡ held ++ input.left) × IsClosing behind input'.left (refused last.sent ∷ [])) → (status ≢ 0) → Serves s d0 d' input0 input' ticks0 ticks status
-    closed input' behind closing ne =
-        serves d' input' ticks status served.answered served.outcomes (refused last.sent ∷ []) (served.outcomes ++ refused last.sent ∷ []) refl served.each
+    pub closed : (input' : Input) (behind : List ℕ) → IsOfVault found (refused last.sent ∷ []) → (input0.tells → (behind ≡ held ++ input.left) × IsClosing behind input'.left (refused last.sent ∷ [])) → (status ≢ 0) → Serves found s d0 d' input0 input' ticks0 ticks status
+    closed input' behind vault closing ne =
+        serves d' input' ticks status served.answered served.outcomes (refused last.sent ∷ []) (served.outcomes ++ refused last.sent ∷ []) refl served.each vault
         (λ tells. record { behind = behind; turns_are = served.text tells ∙ ap (λ (l : List ℕ). served.answered ++ turns l) (sym (closing tells).0); closing_is = (closing tells).1; whole = λ z. absurd (ne z) }) served.moments closing_ended
 
-    pub broken_off : (input' : Input) (index : ℕ) → a ≡ BadRequest index → (input0.tells → turns (held ++ input.left) ≡ broken index ∷ []) → (status ≢ 0) → Serves s d0 d' input0 input' ticks0 ticks status
+    pub broken_off : (input' : Input) (index : ℕ) → a ≡ BadRequest index → (input0.tells → turns (held ++ input.left) ≡ broken index ∷ []) → (status ≢ 0) → Serves found s d0 d' input0 input' ticks0 ticks status
     broken_off input' index a_is text_goes ne =
         let is : (refused last.sent ≡ refused (BadRequest index)) ⊎ (refused last.sent ≡ refused OutOfMemory) = ⊎_elim (λ same. inl (ap refused (same ∙ a_is))) (λ out. inr (ap refused out.0)) last.is in
-        serves d' input' ticks status (served.answered ++ broken index ∷ []) (served.outcomes ++ refused last.sent ∷ []) [] (served.outcomes ++ refused last.sent ∷ []) (sym (append-nil (served.outcomes ++ refused last.sent ∷ []))) (answering_broken served.answered served.outcomes index (refused last.sent) served.each is)
+        serves d' input' ticks status (served.answered ++ broken index ∷ []) (served.outcomes ++ refused last.sent ∷ []) [] (served.outcomes ++ refused last.sent ∷ []) (sym (append-nil (served.outcomes ++ refused last.sent ∷ []))) (answering_broken served.answered served.outcomes index (refused last.sent) served.each is) tt
         (λ tells. record { behind = []; turns_are = served.text tells ∙ ap (λ (l : List Turn). served.answered ++ l) (text_goes tells) ∙ sym (append-nil (served.answered ++ broken index ∷ [])); closing_is = tt; whole = λ z. refl })
         (λ tells. served.moments tells ∙ ap (λ (l : List ℕ). ticks0.gave ++ l) (sym (moments_broken served.answered served.outcomes index (refused last.sent) served.each))) closing_ended
+
+-- a session from the start of a run
+module _ (s : State) (d0 d1 : Disk) (starts : (c : Image) → d1.may_leave c → stands c ≡ Some (durable s)) (sent : d1.sent ≡ d0.sent) (opening : During d0 d1 (λ c b. (stands c ≡ Some (durable s)) × (b ≡ d0.sent))) where
+  covered_at_start : (all : List Outcome) → During d0 d1 (CoveredSo (durable s) all d0.sent)
+  covered_at_start os = weaker d0 d1 (λ c b. (stands c ≡ Some (durable s)) × (b ≡ d0.sent)) (CoveredSo (durable s) os d0.sent)
+      (λ c b left. record { done = []; more = os; split = refl; ends = left.0; rest = []; sent = append-nil b ∙ left.1 ∙ sym (append-nil d0.sent) }) opening
+
+  -- the vault was opened, and the session served
+  pub serves_opened : (found : Result State ℕ) (state : State) (d2 : Disk) (input input' : Input) (ticks ticks' : Ticks) (status : ℕ) → state ≡ durable s → Serves found state d1 d2 input input' ticks ticks' status → Serves found (durable s) d0 d2 input input' ticks ticks' status
+  serves_opened found state d2 input input' ticks ticks' status state_is served =
+      let x = subst (λ (y : State). Serves found y d1 d2 input input' ticks ticks' status) state_is served in
+      let os : List Outcome = x.outcomes ++ x.closing in
+      record {
+        answered = x.answered;
+        outcomes = x.outcomes;
+        closing = x.closing;
+        each = x.each;
+        vault = x.vault;
+        text = x.text;
+        moments = x.moments;
+        status_is = x.status_is;
+        sent = λ ne. x.sent ne ∙ ap (λ (l : List ℕ). l ++ replies (durable s) os) sent;
+        part = (x.part.0, x.part.1 ∙ ap (λ (l : List ℕ). l ++ replies (durable s) os) sent);
+        now = x.now;
+        during = goes_on d0 d1 d2 (CoveredSo (durable s) os d0.sent) (covered_at_start os)
+            (weaker d1 d2 (CoveredSo (durable s) os d1.sent) (CoveredSo (durable s) os d0.sent) (λ c b covered. subst (λ (base : List ℕ). CoveredSo (durable s) os base c b) sent covered) x.during);
+      }
+
+  last_of : (a : Answer) (d2 : Disk) (status : ℕ) → RepliesUnopened a d1 d2 status → RepliesLast a d1 d2 status
+  last_of a d2 status replies_so = record { sent = replies_so.sent; is = replies_so.is; rests = replies_so.delivers.sends.rests; during = replies_so.delivers.sends.during; part = replies_so.delivers.sends.part; whole = whole replies_so.delivers.result replies_so.delivers.status_is replies_so.delivers.sends.sent }
+    where
+      whole : (r : Result (Unit {0}) (Unit {0})) → MatchResult r (λ _. status ≡ number_of replies_so.sent) (λ _. status ≡ 20) → OnOk r (d2.sent ≡ d1.sent ++ framed replies_so.sent) → (status ≡ 20) ⊎ ((status ≡ number_of replies_so.sent) × (d2.sent ≡ d1.sent ++ framed replies_so.sent))
+      whole (Ok v) is all_sent = inr (is, all_sent)
+      whole (Err e) is all_sent = inl is
+
+  closing_fault : (refusal : JournalFault) (a : Answer) (behind left : List ℕ) → (a ≡ refusal_of refusal) ⊎ ((a ≡ OutOfMemory) × NeedsMemory (refusal_of refusal)) → IsClosing behind left (refused a ∷ [])
+  closing_fault refusal a behind left = ⊎_elim (λ is. subst (λ (x : Answer). IsClosing behind left (refused x ∷ [])) (sym is) (at refusal)) (λ out. subst (λ (x : Answer). IsClosing behind left (refused x ∷ [])) (sym out.0) tt)
+    where
+      at : (f : JournalFault) → IsClosing behind left (refused (refusal_of f) ∷ [])
+      at journal.NoMemory = tt
+      at journal.DiskFault = tt
+      at (journal.NotAVault offset) = tt
+
+  vault_fault : (found : Result State ℕ) (refusal : JournalFault) (a : Answer) → IsFaultOf found refusal → (a ≡ refusal_of refusal) ⊎ ((a ≡ OutOfMemory) × NeedsMemory (refusal_of refusal)) → IsOfVault found (refused a ∷ [])
+  vault_fault found refusal a is_fault = ⊎_elim (λ is. subst (λ (x : Answer). IsOfVault found (refused x ∷ [])) (sym is) (at refusal is_fault)) (λ out. subst (λ (x : Answer). IsOfVault found (refused x ∷ [])) (sym out.0) tt)
+    where
+      at : (f : JournalFault) → IsFaultOf found f → IsOfVault found (refused (refusal_of f) ∷ [])
+      at journal.NoMemory is = tt
+      at journal.DiskFault is = tt
+      at (journal.NotAVault offset) is = is
+
+  not_done : (refusal : JournalFault) (a : Answer) → (a ≡ refusal_of refusal) ⊎ ((a ≡ OutOfMemory) × NeedsMemory (refusal_of refusal)) → number_of a ≡ 0 → ⊥
+  not_done refusal a is zero_is = ⊎_elim (λ same. at refusal (sym (ap number_of same) ∙ zero_is)) (λ out. omega (arith, zero_is, ap number_of out.0)) is
+    where
+      at : (f : JournalFault) → number_of (refusal_of f) ≡ 0 → ⊥
+      at journal.NoMemory z = omega (arith, z)
+      at journal.DiskFault z = omega (arith, z)
+      at (journal.NotAVault offset) z = omega (arith, z)
+
+  -- it wasn't
+  pub serves_unopened : (found : Result State ℕ) (d2 : Disk) (input : Input) (ticks : Ticks) (refusal : JournalFault) (status : ℕ) → IsFaultOf found refusal → RepliesUnopened (refusal_of refusal) d1 d2 status → Serves found (durable s) d0 d2 input input ticks ticks status
+  serves_unopened found d2 input ticks refusal status is_fault replies_so =
+      let last = last_of (refusal_of refusal) d2 status replies_so in
+      closed found (durable s) d0 d1 input input [] ticks ticks (durable s)
+      (record {
+        answered = [];
+        outcomes = [];
+        each = tt;
+        text = λ tells. refl;
+        moments = λ tells. sym (append-nil ticks.gave);
+        state_is = refl;
+        standing = record { each = starts };
+        sent = sent ∙ sym (append-nil d0.sent);
+        during = covered_at_start [];
+      })
+      (refusal_of refusal) d2 status last input input.left (vault_fault found refusal last.sent is_fault last.is) (λ tells. (refl, closing_fault refusal last.sent input.left input.left last.is))
+      (λ z. ⊎_elim (λ unsent. omega (arith, unsent, z)) (λ w. not_done refusal last.sent last.is (sym w.0 ∙ z)) last.whole)
+
+-- the machine was lent to what served the session
+pub session_ran : (s : State) (d0 d2 : Disk) (input input' : Input) (ticks ticks' : Ticks) (status : ℕ) (p0 p1 : List GName) → Standing d0 s → ((c : Image) (b : List ℕ) → d0.left_since d0.moment c b → d0.may_leave c × (b ≡ d0.sent))
+    → Serves (opened d0.seen) (durable s) (record d0 { place = p0 }) (record d2 { place = p1 }) input input' ticks ticks' status → RanSession (durable s) d0 d2 input input' ticks ticks' status
+session_ran s d0 d2 input input' ticks ticks' status p0 p1 standing only x =
+    let os : List Outcome = x.outcomes ++ x.closing in
+    record {
+      serves = record {
+        answered = x.answered;
+        outcomes = x.outcomes;
+        closing = x.closing;
+        each = x.each;
+        vault = x.vault;
+        text = x.text;
+        moments = x.moments;
+        status_is = x.status_is;
+        sent = x.sent;
+        part = x.part;
+        now = x.now;
+        during = record { later = x.during.later; each = x.during.each };
+      };
+      stops = λ c b left. ⊎_elim
+          (λ was. let at = only c b was in record { done = []; more = os; split = refl; ends = standing.each c at.0; rest = []; sent = append-nil b ∙ at.1 ∙ sym (append-nil d0.sent) })
+          (λ covered. covered) (x.during.each d0.moment c b (omega arith) left);
+    }

@@ -1,18 +1,18 @@
 -- A request of a session, with its reply.
-use Rattle.std.proofs.Common.{◌≡◌, ◌≢◌, ◌⊎◌, inl, inr, ⊎_elim, ℕ, List, [], ◌∷◌, ◌++◌, refl, sym, ◌∙◌, ap, subst, append_assoc}
+use Rattle.std.proofs.Common.{◌≡◌, ◌≢◌, ◌⊎◌, inl, inr, ⊎_elim, ℕ, List, ◌++◌, refl, sym, ◌∙◌, ap, subst, append_assoc}
 use Rattle.std.specs.Prelude.{Some}
 use Rattle.site_types.specs.Answers.{number_of, NeedsMemory}
 use Rattle.site_types.specs.declared.answer.Answer.{Answer}
-use Rattle.site_types.specs.declared.answer.Answer.TheVariants.{OutOfMemory, BadRequest, DiskFault, ClockFault}
+use Rattle.site_types.specs.declared.answer.Answer.TheVariants.{OutOfMemory, DiskFault}
 use Rattle.vault_disk.specs.Disk.{Disk, Image, During}
 use Rattle.vault_disk.specs.Steps.{Rests, SentPart}
 use Rattle.vault_disk.specs.Ticks.{Ticks}
 use Rattle.vault_disk.proofs.Moments.{goes_on, weaker}
 use Rattle.desk_model.specs.State.{State, durable}
-use Rattle.desk_model.specs.Replay.{Mark, plain, memory, fault, Entry, after, marked_answer, marked_state, stepped}
+use Rattle.desk_model.specs.Replay.{Mark, plain, memory, fault, Entry, marked_answer, marked_state}
 use Rattle.site_desk.specs.Stands.{stands, Standing}
-use Rattle.bp_cli.specs.Runs.{Outcome, refused, carried, said, EndsBy, Ends}
-use Rattle.bp_cli.specs.Sessions.{framed, after_outcome, moment_taken, IsAnswerTo, Takes, RepliesOn, RepliesLast, IsWholeReply, IsTurned, CoversOne, Turns}
+use Rattle.bp_cli.specs.Runs.{Outcome, refused, carried, said, Ends}
+use Rattle.bp_cli.specs.Sessions.{framed, after_outcome, moment_taken, IsAnswerTo, Takes, IsWholeReply, IsTurned, CoversOne, Turns}
 use Rattle.bp_cli.specs.declared.turn.Turned.{Turned}
 use Rattle.bp_cli.specs.declared.turn.Turned.TheVariants.{On, Over}
 use Rattle.bp_cli.proofs.Replying.{unmoved}

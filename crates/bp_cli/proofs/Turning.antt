@@ -1,5 +1,5 @@
 -- A request of a session.
-use Rattle.std.proofs.Common.{◌≡◌, ◌≢◌, ◌⊎◌, inl, ℕ, List, [], ◌∷◌, ◌++◌, length, Bool, true, false, refl, sym, ◌∙◌, ap, subst}
+use Rattle.std.proofs.Common.{◌≡◌, ◌≢◌, ◌⊎◌, ℕ, List, [], ◌∷◌, ◌++◌, length, Bool, true, false, refl, sym, ◌∙◌, ap, subst}
 use Rattle.std.specs.Prelude.{Option, Some, None, is_some, Result, Ok, Err, ◌||◌, if◌then◌else◌}
 use Rattle.std.proofs.lemmas.List.{append-nil}
 use Rattle.site_types.specs.Requests.{read_words, takes_payload}
@@ -7,8 +7,8 @@ use Rattle.site_types.specs.declared.request.Request.{Request}
 use Rattle.site_types.specs.declared.request.WordFault.{WordFault}
 use Rattle.site_types.specs.declared.request.WordFault.TheVariants as word
 use Rattle.site_types.specs.declared.answer.Answer.{Answer}
-use Rattle.site_types.specs.declared.answer.Answer.TheVariants.{OutOfMemory, BadRequest, DiskFault, ClockFault}
-use Rattle.vault_disk.specs.Disk.{Disk, Image}
+use Rattle.site_types.specs.declared.answer.Answer.TheVariants.{OutOfMemory, BadRequest, DiskFault}
+use Rattle.vault_disk.specs.Disk.{Disk}
 use Rattle.vault_disk.specs.Ticks.{Ticks}
 use Rattle.vault_disk.proofs.Moments.{started, weaker}
 use Rattle.desk_model.specs.State.{State, durable}
@@ -17,9 +17,9 @@ use Rattle.site_desk.specs.Stands.{stands, Standing, StandsFor, Between}
 use Rattle.bp_cli.specs.Gather.{clock_moment, IsMoment}
 use Rattle.bp_cli.specs.Words.{is_moment, moment_of, at_moment, without_moment, spoken, IsSpoken}
 use Rattle.bp_cli.specs.Runs.{Outcome, refused, carried, Ends}
-use Rattle.bp_cli.specs.Sessions.{answer_in, unheard, after_outcome, names_moment, moment_taken, is_none_given, with_payload, turn_spoken, IsNamed, IsAnswerTo, Takes}
+use Rattle.bp_cli.specs.Sessions.{answer_in, unheard, after_outcome, names_moment, is_none_given, with_payload, turn_spoken, IsNamed, IsAnswerTo, Takes}
 use Rattle.bp_cli.specs.declared.words.Spoken.{Spoken}
-use Rattle.bp_cli.proofs.Obeying.{mark_of, entry_of, marked, before_or_after, ended}
+use Rattle.bp_cli.proofs.Obeying.{entry_of, marked, before_or_after, ended}
 
 abbrev heard : Spoken → Result Spoken ℕ
 heard asked = Ok asked

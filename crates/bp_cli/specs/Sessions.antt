@@ -16,7 +16,7 @@ use Rattle.desk_model.specs.State.{State, durable}
 use Rattle.desk_model.specs.Replay.{Entry, after}
 use Rattle.site_desk.specs.Stands.{opened, stands, Standing}
 use Rattle.bp_cli.specs.Words.{is_moment, spoken}
-use Rattle.bp_cli.specs.Runs.{Outcome, refused, carried, said, Ends}
+use Rattle.bp_cli.specs.Runs.{Outcome, refused, carried, said, Ends, Delivers}
 use Rattle.bp_cli.specs.declared.turn.Turned.{Turned}
 use Rattle.bp_cli.specs.declared.turn.Turned.TheVariants.{On, Over}
 use Rattle.bp_cli.specs.declared.words.Spoken.{Spoken}
@@ -118,12 +118,20 @@ moments_taken (request words payload ∷ ts) (o ∷ os) = moment_taken words o +
 moments_taken (broken index ∷ ts) (o ∷ os) = moments_taken ts os
 moments_taken _ _ = []
 
--- What ends a session and is no answer to a turn: a read that failed, where what the source gave holds no whole turn more; or want of memory.
+-- What ends a session and is no answer to a turn: a vault that isn't opened, before the first; a read that failed, where what the source gave holds no whole turn
+-- more; or want of memory.
 abbrev pub IsClosing : List ℕ → List ℕ → List Outcome → Type 0
 IsClosing behind left [] = Unit {0}
 IsClosing behind left (refused OutOfMemory ∷ []) = Unit {0}
 IsClosing behind left (refused ReadFault ∷ []) = (held : List ℕ) × (behind ≡ held ++ left) × (whole_turn held ≡ None)
+IsClosing behind left (refused DiskFault ∷ []) = Unit {0}
+IsClosing behind left (refused (NotAVault offset) ∷ []) = Unit {0}
 IsClosing behind left _ = ⊥
+
+-- the vault is none where that is told, with the offset at which its journal stands for no state
+abbrev pub IsOfVault : Result State ℕ → List Outcome → Type 0
+IsOfVault found (refused (NotAVault offset) ∷ []) = found ≡ Err offset
+IsOfVault found _ = Unit {0}
 
 -- the turns that were answered are the first of the text, and all of them where the status is 0
 pub record IsOfText (text left : List ℕ) (ts : List Turn) (closing : List Outcome) (status : ℕ) : Type 0 where
@@ -140,11 +148,12 @@ last_number s (o ∷ p ∷ os) = last_number (after_outcome s o) (p ∷ os)
 
 -- What came of a session from a state: the turns that were answered and their outcomes, and what ended it. What is sent are the model's replies, or their first bytes
 -- where a send failed; the status is 0 where the input was read to its end, else the number of the last answer, or 20 where a send failed.
-pub record Serves (s : State) (disk disk' : Disk) (input input' : Input) (ticks ticks' : Ticks) (status : ℕ) : Type 0 where
+pub record Serves (found : Result State ℕ) (s : State) (disk disk' : Disk) (input input' : Input) (ticks ticks' : Ticks) (status : ℕ) : Type 0 where
   pub answered : List Turn
   pub outcomes : List Outcome
   pub closing : List Outcome
   pub each : Answering answered outcomes
+  pub vault : IsOfVault found closing
   pub text : input.tells → IsOfText input.left input'.left answered closing status
   pub moments : ticks.tells → ticks'.gave ≡ ticks.gave ++ moments_taken answered outcomes
   pub status_is : (status ≡ 0) ⊎ ((status ≡ last_number s (outcomes ++ closing)) ⊎ (status ≡ 20))
@@ -152,6 +161,12 @@ pub record Serves (s : State) (disk disk' : Disk) (input input' : Input) (ticks 
   pub part : (rest : List ℕ) × (disk'.sent ++ rest ≡ disk.sent ++ replies s (outcomes ++ closing))
   pub now : (c : Image) → disk'.may_leave c → EndsAfter s (outcomes ++ closing) c
   pub during : During disk disk' (CoveredSo s (outcomes ++ closing) disk.sent)
+
+-- A session from a state, as it is served; and wherever it stops the disk stands for the state after the first of its requests, each of those of whose reply a byte
+-- was sent among them.
+pub record RanSession (s : State) (disk disk' : Disk) (input input' : Input) (ticks ticks' : Ticks) (status : ℕ) : Type 0 where
+  pub serves : Serves (opened disk.seen) s disk disk' input input' ticks ticks' status
+  pub stops : (c : Image) (b : List ℕ) → disk'.left_since disk.moment c b → CoveredSo s (serves.outcomes ++ serves.closing) disk.sent c b
 
 -- a request of a session was answered on a desk with this state, and nothing is sent yet
 pub record Takes (s : State) (words : List (List ℕ)) (payload : List ℕ) (disk disk' : Disk) (ticks ticks' : Ticks) (a : Answer) (state : State) : Type 0 where
@@ -227,3 +242,9 @@ pub record RepliesLast (a : Answer) (old new : Disk) (status : ℕ) : Type 0 whe
 abbrev pub last_status : Turned → ℕ
 last_status On = 0
 last_status (Over status) = status
+
+-- an answer was sent with its frame, or want of memory in its place, where there is no desk
+pub record RepliesUnopened (a : Answer) (old new : Disk) (status : ℕ) : Type 0 where
+  pub sent : Answer
+  pub is : (sent ≡ a) ⊎ ((sent ≡ OutOfMemory) × NeedsMemory a)
+  pub delivers : Delivers (framed sent) (number_of sent) old new status

@@ -1,5 +1,6 @@
 -- The words of a single request: a moment, where it names one, and the request.
-use Rattle.std.specs.Prelude.{◌≡◌, ℕ, ◌+◌, Bool, false, ◌==◌, if◌then◌else◌, List, [], ◌∷◌, drop, Option, Some, None, Result, Ok, Err}
+use Rattle.std.specs.Prelude.{◌≡◌, ℕ, ◌+◌, Bool, false, ◌==◌, if◌then◌else◌, List, [], ◌∷◌, codes, drop, Option, Some, None, Result, Ok, Err}
+use Rattle.std.specs.Str.{bytes_eq}
 use Rattle.site_types.specs.Numbers.{number_up_to}
 use Rattle.site_types.specs.Requests.{read_words}
 use Rattle.site_types.specs.declared.request.Request.{Request}
@@ -30,6 +31,15 @@ without_moment (Err index) = Err index
 abbrev pub spoken : List (List ℕ) → Result Spoken ℕ
 spoken [] = Err 0
 spoken (word ∷ words) = if is_moment word then at_moment (moment_of word) (read_words words) else without_moment (read_words (word ∷ words))
+
+-- the first word is session; and it is the only one
+abbrev pub names_session : List (List ℕ) → Bool
+names_session [] = false
+names_session (word ∷ words) = bytes_eq word (codes "session")
+
+abbrev pub is_session : List (List ℕ) → Bool
+is_session (word ∷ []) = bytes_eq word (codes "session")
+is_session _ = false
 
 -- a result of reading words is what they ask for, or want of memory
 abbrev pub IsSpoken : Result Spoken WordFault → Result Spoken ℕ → Type 0

@@ -41,7 +41,8 @@ fn push_number(head: &mut Vec<u8>, number: u64)
     push(head, Buffer::new().format(number).as_bytes());
 }
 
-fn write_head(head: &mut Vec<u8>, number: u8, size: usize)
+/// Writes the head of a frame, in place of what stood there.
+pub fn write_head(head: &mut Vec<u8>, number: u8, size: usize)
     requires room { 128 ≤ vec_capacity head.old }
     ensures items { head.new.items ≡ decimal number ++ 32 ∷ (decimal size ++ 10 ∷ []) }
     ensures room { 128 ≤ vec_capacity head.new }

@@ -1,5 +1,6 @@
 // A session: requests are read, answered and their replies sent, one after another.
-ghost use Rattle.std.specs.Prelude.{◌≡◌, ◌≤◌, [], false, vec_capacity};
+ghost use Rattle.std.specs.Prelude.{◌≡◌, ◌≤◌, ℕ, [], false, Result, vec_capacity};
+ghost use Rattle.desk_model.specs.State.{State};
 ghost use Rattle.vault_disk.specs.Disk.{IsLater};
 ghost use Rattle.vault_disk.specs.Input.{IsSameInput};
 ghost use Rattle.vault_disk.specs.Steps.{Rose};
@@ -35,7 +36,7 @@ pub fn serve<M: Machine, S: Source, C: Clock>(
     requires running { desk.old.stopped ≡ false }
     requires room { 128 ≤ vec_capacity head.old }
     requires new { text.old ≡ [] }
-    ensures serves { (M.disk desk.old.vault).tells → Standing (M.disk desk.old.vault) desk.old.state → Serves desk.old.state (M.disk desk.old.vault) (M.disk desk.new.vault) (S.input source.old) (S.input source.new) (C.ticks clock.old) (C.ticks clock.new) result }
+    ensures serves { (found : Result State ℕ) → (M.disk desk.old.vault).tells → Standing (M.disk desk.old.vault) desk.old.state → Serves found desk.old.state (M.disk desk.old.vault) (M.disk desk.new.vault) (S.input source.old) (S.input source.new) (C.ticks clock.old) (C.ticks clock.new) result }
     ensures later { IsLater (M.disk desk.old.vault) (M.disk desk.new.vault) }
     ensures disk_fault { result ≡ 18 → Rose (M.disk desk.old.vault).faults (M.disk desk.new.vault).faults }
     ensures read_fault { result ≡ 19 → Rose (S.input source.old).faults (S.input source.new).faults }

@@ -1,12 +1,11 @@
-use Rattle.std.proofs.Common.{◌≡◌, ◌≢◌, ◌++◌, [], ◌∷◌, ℕ, List, refl, sym, ◌∙◌, ap, subst, ⊎_elim, arith}
-use Rattle.site_types.specs.Answers.{number_of}
+use Rattle.std.proofs.Common.{◌≡◌, ◌++◌, [], ◌∷◌, ℕ, refl, sym, ◌∙◌, ap, subst, ⊎_elim, arith}
 use Rattle.site_types.specs.declared.answer.Answer.{Answer}
 use Rattle.site_types.specs.declared.answer.Answer.TheVariants.{OutOfMemory, BadRequest, ReadFault}
 use Rattle.bp_cli.specs.Runs.{refused}
-use Rattle.bp_cli.specs.Sessions.{IsClosing, last_status, Serves, Turns}
+use Rattle.bp_cli.specs.Sessions.{IsClosing, IsOfVault, Serves, Turns}
 use Rattle.bp_cli.specs.declared.turn.Turned.{Turned}
-use Rattle.bp_cli.specs.declared.turn.Turned.TheVariants.{On, Over}
-use Rattle.bp_cli.proofs.Serving.{none_served, served_more, served_all, over, last_turned, closed, broken_off}
+use Rattle.bp_cli.specs.declared.turn.Turned.TheVariants.{Over}
+use Rattle.bp_cli.proofs.Serving.{any_found, none_served, served_more, served_all, over, last_turned, closed, broken_off}
 use Rattle.bp_cli.proofs.serve.serve.Goals as goal
 
 pub loop-init : goal.loop-init
@@ -20,53 +19,53 @@ loop-init g c = record {
 }
 
 pub returns-in-Over-clause-serves : goal.returns-in-Over-clause-serves
-returns-in-Over-clause-serves g c told standing =
+returns-in-Over-clause-serves g c found told standing =
     let i = c.loop.invariant in
     let served = i.served told standing in
-    over c.args.desk.now.state (g.M.Vault.disk c.args.desk.now.vault) (g.M.Vault.disk c.loop.desk.vault) (g.S.Source.input c.args.source.now) (g.S.Source.input c.loop.source) c.loop.text (g.C.Clock.ticks c.args.clock.now) (g.C.Clock.ticks c.loop.clock) c.loop.desk.state served
+    over found c.args.desk.now.state (g.M.Vault.disk c.args.desk.now.vault) (g.M.Vault.disk c.loop.desk.vault) (g.S.Source.input c.args.source.now) (g.S.Source.input c.loop.source) c.loop.text (g.C.Clock.ticks c.args.clock.now) (g.C.Clock.ticks c.loop.clock) c.loop.desk.state served
     c.in-Request.asked.words c.in-Request.asked.payload (g.M.Vault.disk c.take_turn.new.desk.vault) (g.S.Source.input c.next.new.source) (c.next.new.self ++ (g.S.Source.input c.next.new.source).left) (g.C.Clock.ticks c.take_turn.new.clock) c.take_turn.new.desk.state (λ tells. c.in-Request.ensures.turns (i.input.tells tells)) i.clock.tells
     c.in-Over.status (λ z. c.take_turn.ensures.not_done (c.in-Over.is ∙ ap Over z)) (subst (λ (t : Turned). Turns c.loop.desk.state c.in-Request.asked.words c.in-Request.asked.payload (g.M.Vault.disk c.loop.desk.vault) (g.M.Vault.disk c.take_turn.new.desk.vault) (g.C.Clock.ticks c.loop.clock) (g.C.Clock.ticks c.take_turn.new.clock) c.take_turn.new.desk.state t) c.in-Over.is (c.take_turn.ensures.turns (i.later.tells told) served.standing))
 
 pub returns-in-Last-clause-serves : goal.returns-in-Last-clause-serves
-returns-in-Last-clause-serves g c told standing =
+returns-in-Last-clause-serves g c found told standing =
     let i = c.loop.invariant in
     let served = i.served told standing in
-    subst (λ (n : ℕ). Serves c.args.desk.now.state (g.M.Vault.disk c.args.desk.now.vault) (g.M.Vault.disk c.take_turn-in-Last.new.desk.vault) (g.S.Source.input c.args.source.now) (g.S.Source.input c.next.new.source) (g.C.Clock.ticks c.args.clock.now) (g.C.Clock.ticks c.take_turn-in-Last.new.clock) n) (sym c.last_status.ensures)
-    (last_turned c.args.desk.now.state (g.M.Vault.disk c.args.desk.now.vault) (g.M.Vault.disk c.loop.desk.vault) (g.S.Source.input c.args.source.now) (g.S.Source.input c.loop.source) c.loop.text (g.C.Clock.ticks c.args.clock.now) (g.C.Clock.ticks c.loop.clock) c.loop.desk.state served
+    subst (λ (n : ℕ). Serves found c.args.desk.now.state (g.M.Vault.disk c.args.desk.now.vault) (g.M.Vault.disk c.take_turn-in-Last.new.desk.vault) (g.S.Source.input c.args.source.now) (g.S.Source.input c.next.new.source) (g.C.Clock.ticks c.args.clock.now) (g.C.Clock.ticks c.take_turn-in-Last.new.clock) n) (sym c.last_status.ensures)
+    (last_turned found c.args.desk.now.state (g.M.Vault.disk c.args.desk.now.vault) (g.M.Vault.disk c.loop.desk.vault) (g.S.Source.input c.args.source.now) (g.S.Source.input c.loop.source) c.loop.text (g.C.Clock.ticks c.args.clock.now) (g.C.Clock.ticks c.loop.clock) c.loop.desk.state served
     c.in-Last.asked.words c.in-Last.asked.payload (g.M.Vault.disk c.take_turn-in-Last.new.desk.vault) (g.S.Source.input c.next.new.source) [] (g.C.Clock.ticks c.take_turn-in-Last.new.clock) c.take_turn-in-Last.new.desk.state (λ tells. c.in-Last.ensures.turns (i.input.tells tells)) i.clock.tells
     c.take_turn-in-Last.result c.take_turn-in-Last.ensures.not_done (λ tells. refl) (c.take_turn-in-Last.ensures.turns (i.later.tells told) served.standing))
 
 pub returns-in-Broken-clause-serves : goal.returns-in-Broken-clause-serves
-returns-in-Broken-clause-serves g c told standing =
+returns-in-Broken-clause-serves g c found told standing =
     let i = c.loop.invariant in
     let served = i.served told standing in
-    broken_off c.args.desk.now.state (g.M.Vault.disk c.args.desk.now.vault) (g.M.Vault.disk c.loop.desk.vault) (g.S.Source.input c.args.source.now) (g.S.Source.input c.loop.source) c.loop.text (g.C.Clock.ticks c.args.clock.now) (g.C.Clock.ticks c.loop.clock) c.loop.desk.state served
+    broken_off found c.args.desk.now.state (g.M.Vault.disk c.args.desk.now.vault) (g.M.Vault.disk c.loop.desk.vault) (g.S.Source.input c.args.source.now) (g.S.Source.input c.loop.source) c.loop.text (g.C.Clock.ticks c.args.clock.now) (g.C.Clock.ticks c.loop.clock) c.loop.desk.state served
     (BadRequest c.in-Broken.index) (g.M.Vault.disk c.reply_last.new.desk.vault) c.reply_last.result (c.reply_last.ensures.last (i.later.tells told)) (g.S.Source.input c.next.new.source) c.in-Broken.index refl (λ tells. c.in-Broken.ensures.turns (i.input.tells tells))
     (λ z. ⊎_elim (λ n. omega (arith, n, z)) (λ other. ⊎_elim (λ one. omega (arith, one, z)) (λ unsent. omega (arith, unsent.0, z)) other) c.reply_last.ensures.status)
 
 pub returns-in-End-clause-serves : goal.returns-in-End-clause-serves
-returns-in-End-clause-serves g c told standing =
+returns-in-End-clause-serves g c found told standing =
     let i = c.loop.invariant in
-    served_all c.args.desk.now.state (g.M.Vault.disk c.args.desk.now.vault) (g.M.Vault.disk c.loop.desk.vault) (g.S.Source.input c.args.source.now) (g.S.Source.input c.loop.source) c.loop.text (g.C.Clock.ticks c.args.clock.now) (g.C.Clock.ticks c.loop.clock) c.loop.desk.state (i.served told standing)
+    served_all found c.args.desk.now.state (g.M.Vault.disk c.args.desk.now.vault) (g.M.Vault.disk c.loop.desk.vault) (g.S.Source.input c.args.source.now) (g.S.Source.input c.loop.source) c.loop.text (g.C.Clock.ticks c.args.clock.now) (g.C.Clock.ticks c.loop.clock) c.loop.desk.state (i.served told standing)
     (g.S.Source.input c.next.new.source) (λ tells. (c.in-End.ensures.next (i.input.tells tells)).0)
 
 pub returns-in-Failed-clause-serves : goal.returns-in-Failed-clause-serves
-returns-in-Failed-clause-serves g c told standing =
+returns-in-Failed-clause-serves g c found told standing =
     let i = c.loop.invariant in
     let last = c.reply_last-in-Failed.ensures.last (i.later.tells told) in
     let sent : last.sent ≡ ReadFault = ⊎_elim (λ same. same) (λ out. absurd out.1) last.is in
-    closed c.args.desk.now.state (g.M.Vault.disk c.args.desk.now.vault) (g.M.Vault.disk c.loop.desk.vault) (g.S.Source.input c.args.source.now) (g.S.Source.input c.loop.source) c.loop.text (g.C.Clock.ticks c.args.clock.now) (g.C.Clock.ticks c.loop.clock) c.loop.desk.state (i.served told standing)
-    ReadFault (g.M.Vault.disk c.reply_last-in-Failed.new.desk.vault) c.reply_last-in-Failed.result last (g.S.Source.input c.next.new.source) (c.next.new.self ++ (g.S.Source.input c.next.new.source).left)
+    closed found c.args.desk.now.state (g.M.Vault.disk c.args.desk.now.vault) (g.M.Vault.disk c.loop.desk.vault) (g.S.Source.input c.args.source.now) (g.S.Source.input c.loop.source) c.loop.text (g.C.Clock.ticks c.args.clock.now) (g.C.Clock.ticks c.loop.clock) c.loop.desk.state (i.served told standing)
+    ReadFault (g.M.Vault.disk c.reply_last-in-Failed.new.desk.vault) c.reply_last-in-Failed.result last (g.S.Source.input c.next.new.source) (c.next.new.self ++ (g.S.Source.input c.next.new.source).left) (subst (λ (a : Answer). IsOfVault found (refused a ∷ [])) (sym sent) tt)
     (λ tells. let next = c.in-Failed.ensures.next (i.input.tells tells) in (next.0, subst (λ (a : Answer). IsClosing (c.next.new.self ++ (g.S.Source.input c.next.new.source).left) (g.S.Source.input c.next.new.source).left (refused a ∷ [])) (sym sent) (c.next.new.self, refl, next.1)))
     (λ z. ⊎_elim (λ n. omega (arith, n, z)) (λ other. ⊎_elim (λ one. omega (arith, one, z)) (λ unsent. omega (arith, unsent.0, z)) other) c.reply_last-in-Failed.ensures.status)
 
 pub returns-in-NoMemory-clause-serves : goal.returns-in-NoMemory-clause-serves
-returns-in-NoMemory-clause-serves g c told standing =
+returns-in-NoMemory-clause-serves g c found told standing =
     let i = c.loop.invariant in
     let last = c.reply_last-in-NoMemory.ensures.last (i.later.tells told) in
     let sent : last.sent ≡ OutOfMemory = ⊎_elim (λ same. same) (λ out. out.0) last.is in
-    closed c.args.desk.now.state (g.M.Vault.disk c.args.desk.now.vault) (g.M.Vault.disk c.loop.desk.vault) (g.S.Source.input c.args.source.now) (g.S.Source.input c.loop.source) c.loop.text (g.C.Clock.ticks c.args.clock.now) (g.C.Clock.ticks c.loop.clock) c.loop.desk.state (i.served told standing)
-    OutOfMemory (g.M.Vault.disk c.reply_last-in-NoMemory.new.desk.vault) c.reply_last-in-NoMemory.result last (g.S.Source.input c.next.new.source) (c.next.new.self ++ (g.S.Source.input c.next.new.source).left)
+    closed found c.args.desk.now.state (g.M.Vault.disk c.args.desk.now.vault) (g.M.Vault.disk c.loop.desk.vault) (g.S.Source.input c.args.source.now) (g.S.Source.input c.loop.source) c.loop.text (g.C.Clock.ticks c.args.clock.now) (g.C.Clock.ticks c.loop.clock) c.loop.desk.state (i.served told standing)
+    OutOfMemory (g.M.Vault.disk c.reply_last-in-NoMemory.new.desk.vault) c.reply_last-in-NoMemory.result last (g.S.Source.input c.next.new.source) (c.next.new.self ++ (g.S.Source.input c.next.new.source).left) (subst (λ (a : Answer). IsOfVault found (refused a ∷ [])) (sym sent) tt)
     (λ tells. (c.in-NoMemory.ensures.whole (i.input.tells tells), subst (λ (a : Answer). IsClosing (c.next.new.self ++ (g.S.Source.input c.next.new.source).left) (g.S.Source.input c.next.new.source).left (refused a ∷ [])) (sym sent) tt))
     (λ z. ⊎_elim (λ n. omega (arith, n, z)) (λ other. ⊎_elim (λ one. omega (arith, one, z)) (λ unsent. omega (arith, unsent.0, z)) other) c.reply_last-in-NoMemory.ensures.status)
 
@@ -84,17 +83,17 @@ loop-preserved g c =
       clock = record { place = k.place ∙ i.clock.place; tells = λ t. k.tells (i.clock.tells t); told = λ t. i.clock.told (k.told t); may_give = λ a m t. i.clock.may_give a m (k.may_give a m t); reliable = λ t. k.reliable (i.clock.reliable t); relied = λ t. i.clock.relied (k.relied t); faults = omega (arith, i.clock.faults, k.faults) };
       served = λ told standing.
           let served = i.served told standing in
-          served_more c.args.desk.now.state (g.M.Vault.disk c.args.desk.now.vault) (g.M.Vault.disk c.loop.desk.vault) (g.S.Source.input c.args.source.now) (g.S.Source.input c.loop.source) c.loop.text (g.C.Clock.ticks c.args.clock.now) (g.C.Clock.ticks c.loop.clock) c.loop.desk.state served
+          served_more any_found c.args.desk.now.state (g.M.Vault.disk c.args.desk.now.vault) (g.M.Vault.disk c.loop.desk.vault) (g.S.Source.input c.args.source.now) (g.S.Source.input c.loop.source) c.loop.text (g.C.Clock.ticks c.args.clock.now) (g.C.Clock.ticks c.loop.clock) c.loop.desk.state served
           c.in-Request.asked.words c.in-Request.asked.payload (g.M.Vault.disk c.take_turn.new.desk.vault) (g.S.Source.input c.next.new.source) c.next.new.self (g.C.Clock.ticks c.take_turn.new.clock) c.take_turn.new.desk.state (λ tells. c.in-Request.ensures.turns (i.input.tells tells)) i.clock.tells
           (subst (λ (t : Turned). Turns c.loop.desk.state c.in-Request.asked.words c.in-Request.asked.payload (g.M.Vault.disk c.loop.desk.vault) (g.M.Vault.disk c.take_turn.new.desk.vault) (g.C.Clock.ticks c.loop.clock) (g.C.Clock.ticks c.take_turn.new.clock) c.take_turn.new.desk.state t) c.in_default.is (c.take_turn.ensures.turns (i.later.tells told) served.standing));
     }
 
 pub returns-clause-serves : goal.returns-clause-serves
-returns-clause-serves g c told standing =
+returns-clause-serves g c found told standing =
     let i = c.loop.invariant in
     let last = c.reply_last-2.ensures.last (i.later.tells told) in
     let sent : last.sent ≡ OutOfMemory = ⊎_elim (λ same. same) (λ out. out.0) last.is in
-    closed c.args.desk.now.state (g.M.Vault.disk c.args.desk.now.vault) (g.M.Vault.disk c.loop.desk.vault) (g.S.Source.input c.args.source.now) (g.S.Source.input c.loop.source) c.loop.text (g.C.Clock.ticks c.args.clock.now) (g.C.Clock.ticks c.loop.clock) c.loop.desk.state (i.served told standing)
-    OutOfMemory (g.M.Vault.disk c.reply_last-2.new.desk.vault) c.reply_last-2.result last (g.S.Source.input c.loop.source) (c.loop.text ++ (g.S.Source.input c.loop.source).left)
+    closed found c.args.desk.now.state (g.M.Vault.disk c.args.desk.now.vault) (g.M.Vault.disk c.loop.desk.vault) (g.S.Source.input c.args.source.now) (g.S.Source.input c.loop.source) c.loop.text (g.C.Clock.ticks c.args.clock.now) (g.C.Clock.ticks c.loop.clock) c.loop.desk.state (i.served told standing)
+    OutOfMemory (g.M.Vault.disk c.reply_last-2.new.desk.vault) c.reply_last-2.result last (g.S.Source.input c.loop.source) (c.loop.text ++ (g.S.Source.input c.loop.source).left) (subst (λ (a : Answer). IsOfVault found (refused a ∷ [])) (sym sent) tt)
     (λ tells. (refl, subst (λ (a : Answer). IsClosing (c.loop.text ++ (g.S.Source.input c.loop.source).left) (g.S.Source.input c.loop.source).left (refused a ∷ [])) (sym sent) tt))
     (λ z. ⊎_elim (λ n. omega (arith, n, z)) (λ other. ⊎_elim (λ one. omega (arith, one, z)) (λ unsent. omega (arith, unsent.0, z)) other) c.reply_last-2.ensures.status)

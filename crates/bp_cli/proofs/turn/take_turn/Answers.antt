@@ -1,4 +1,4 @@
-use Rattle.std.proofs.Common.{◌≡◌, arith, sym, subst, ⊎_elim, ℕ}
+use Rattle.std.proofs.Common.{arith, sym, subst, ⊎_elim, ℕ}
 use Rattle.vault_disk.specs.Steps.{Rose}
 use Rattle.site_types.specs.declared.answer.Answer.TheVariants.{OutOfMemory}
 use Rattle.bp_cli.specs.declared.turn.Turned.TheVariants.{Over}

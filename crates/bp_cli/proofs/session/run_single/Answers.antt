@@ -4,7 +4,7 @@ use Rattle.bp_cli.specs.Words.{spoken}
 use Rattle.bp_cli.specs.Runs.{Ran}
 use Rattle.bp_cli.proofs.Sending.{bad_status}
 use Rattle.bp_cli.proofs.Replying.{ran, at_equal}
-use Rattle.bp_cli.proofs.session.run.Goals as goal
+use Rattle.bp_cli.proofs.session.run_single.Goals as goal
 
 pub returns-clause-ran : goal.returns-clause-ran
 returns-clause-ran g c s told standing =
