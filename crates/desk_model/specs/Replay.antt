@@ -36,7 +36,7 @@ marked_state s e plain = (stepped s e).1
 marked_state s e memory = s
 marked_state s e fault = s
 
--- the state after an entry; after a fault it is the one before it, or the one after its step
+-- the state after an entry; after want of memory or a fault it is the one before it, and that a fault may have acted is said of the ends of a run
 abbrev pub after : State → Entry → State
 after s e = marked_state s e e.mark
 

@@ -13,9 +13,10 @@ pub const OPEN: u8 = 165;
 
 pub const HEADER: [u8; 16] = *b"NBDESK VAULT 001";
 
-/// An entry, and the offset of its record's gate.
+/// An entry, with the offsets of its record's gate and of its image's bytes, and how many bytes those are.
 #[derive(Debug, Drop)]
 pub struct Placed {
+    /// The offset of the record's gate.
     pub at: u64,
     /// The offset of the image's bytes, and their number.
     pub from: u64,

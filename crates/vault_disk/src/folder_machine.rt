@@ -1,4 +1,4 @@
-ghost use Rattle.std.specs.Prelude.{◌≤◌, length, IfOk};
+ghost use Rattle.std.specs.Prelude.{◌≡◌, ◌≤◌, length, IfOk};
 
 use crate::faults::raise;
 use crate::folder::Folder;
@@ -25,7 +25,10 @@ pub struct FolderMachine<R: Files<File = File> + Print + io::Eprint + AllocGloba
 
 impl<R: Files<File = File> + Print + io::Eprint + AllocGlobal + Drop> FolderMachine<R> {
     /// A machine over the folder of this path. Nothing is touched yet.
-    pub fn new(rt: R, path: String) -> Self {
+    pub fn new(rt: R, path: String) -> Self
+        ensures faults { (⟦<FolderMachine<R> as Vault>⟧.disk result).faults ≡ 0 }
+        ensures send_faults { (⟦<FolderMachine<R> as Vault>⟧.disk result).send_faults ≡ 0 }
+    {
         let folder = Folder::new(&rt, path);
         FolderMachine {
             rt,

@@ -1,4 +1,4 @@
-ghost use Rattle.std.specs.Prelude.{◌≤◌, length, IfOk};
+ghost use Rattle.std.specs.Prelude.{◌≡◌, ◌≤◌, ◌-◌, ◌^◌, length, IfOk};
 
 use crate::faults::raise;
 use crate::{Failed, Source};
@@ -16,7 +16,10 @@ pub struct StandardSource<T: Read + Drop> {
 
 impl<T: Read + Drop> StandardSource<T> {
     /// A source of what this reader gives.
-    pub fn new(reader: T) -> Self {
+    pub fn new(reader: T) -> Self
+        ensures budget { (⟦<StandardSource<T> as Source>⟧.input result).budget ≡ 2 ^ 64 - 1 }
+        ensures faults { (⟦<StandardSource<T> as Source>⟧.input result).faults ≡ 0 }
+    {
         StandardSource {
             reader,
             budget: u64::MAX,

@@ -1,3 +1,5 @@
+ghost use Rattle.std.specs.Prelude.{◌≡◌};
+
 use crate::faults::raise;
 use crate::{Clock, Failed};
 use std::io;
@@ -16,7 +18,9 @@ pub struct SystemClock<R: Time + Drop> {
 
 impl<R: Time + Drop> SystemClock<R> {
     /// The clock of this runtime.
-    pub fn new(rt: R) -> Self {
+    pub fn new(rt: R) -> Self
+        ensures faults { (⟦<SystemClock<R> as Clock>⟧.ticks result).faults ≡ 0 }
+    {
         SystemClock { rt, faults: 0 }
     }
 }
