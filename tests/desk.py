@@ -15,8 +15,8 @@ ROOT = Path(__file__).resolve().parent.parent
 # Another file in the program's place, for one who tries these tests on a program that is known to be right or wrong.
 PROGRAM = Path(os.environ.get("BPDESK_PROGRAM", ROOT / "crates/bpdesk/out/bpdesk"))
 
-# THE FORMS THAT STAND: add "session" here when the program has it, and their tests are run too.
-FORMS = os.environ.get("BPDESK_FORMS", "bpbackup bprestore").split()
+# The forms that stand: the tests of each are run.
+FORMS = os.environ.get("BPDESK_FORMS", "bpbackup bprestore session").split()
 
 LATEST = 250_000_000_000
 LONGEST = 67_108_864
