@@ -13,4 +13,6 @@ mod words;
 pub use session::run;
 
 #[cfg(test)]
+mod session_tests;
+#[cfg(test)]
 mod tests;
