@@ -1,5 +1,5 @@
 -- A session, request by request.
-use Rattle.std.proofs.Common.{◌≡◌, ◌≢◌, ◌⊎◌, inl, inr, ⊎_elim, ℕ, List, [], ◌∷◌, ◌++◌, refl, sym, ◌∙◌, ap, subst, append_assoc, arith}
+use Rattle.std.proofs.Common.{◌≡◌, ◌≢◌, ◌⊎◌, inl, inr, ⊎_elim, ℕ, List, [], ◌∷◌, ◌++◌, refl, sym, ◌∙◌, ap, subst, append_assoc, arith, false}
 use Rattle.std.specs.Prelude.{Some, Result, Ok, Err, MatchResult, OnOk}
 use Rattle.std.specs.Borrow.{GName}
 use Rattle.std.proofs.lemmas.List.{append-nil}
@@ -19,7 +19,7 @@ use Rattle.desk_model.specs.Replay.{Mark, plain, memory, fault, Entry, marked_st
 use Rattle.site_desk.specs.Desk.{IsFaultOf}
 use Rattle.site_desk.specs.Stands.{opened, stands, Standing}
 use Rattle.bp_cli.specs.Runs.{Outcome, refused, carried, said, EndsBy, Ends, refusal_of}
-use Rattle.bp_cli.specs.Sessions.{framed, after_outcome, state_after, replies, EndsAfter, CoveredSo, IsAnswerTo, Answering, moment_taken, moments_taken, IsClosing, IsOfText, IsOfVault, last_number, last_status, Serves, CoversOne, Turns, RanSession, RepliesLast, RepliesUnopened}
+use Rattle.bp_cli.specs.Sessions.{framed, is_over, EndsBroken, IsStatus, after_outcome, state_after, replies, EndsAfter, CoveredSo, IsAnswerTo, Answering, moment_taken, moments_taken, IsClosing, IsOfText, IsOfVault, last_number, last_status, Serves, CoversOne, Turns, RanSession, RepliesLast, RepliesUnopened}
 use Rattle.bp_cli.specs.declared.turn.Turned.{Turned}
 use Rattle.bp_cli.specs.declared.turn.Turned.TheVariants.{On, Over}
 
@@ -91,6 +91,17 @@ moments_broken (t ∷ ts) [] index o each = absurd each
 moments_broken (request w q ∷ ts) (p ∷ os) index o each = ap (λ (l : List ℕ). moment_taken w p ++ l) (moments_broken ts os index o each.1)
 moments_broken (broken i ∷ ts) (p ∷ os) index o each = moments_broken ts os index o each.1
 
+-- whether the last turn is a fault in the framing
+ends_request : (ts : List Turn) (words : List (List ℕ)) (payload : List ℕ) → EndsBroken (ts ++ request words payload ∷ []) → ⊥
+ends_request [] words payload ends = ends
+ends_request (t ∷ []) words payload ends = ends
+ends_request (t ∷ u ∷ ts) words payload ends = ends_request (u ∷ ts) words payload ends
+
+ends_broken : (ts : List Turn) (index : ℕ) → EndsBroken (ts ++ broken index ∷ [])
+ends_broken [] index = tt
+ends_broken (t ∷ []) index = tt
+ends_broken (t ∷ u ∷ ts) index = ends_broken (u ∷ ts) index
+
 -- the requests so far
 pub record Served (s : State) (d0 d : Disk) (input0 input : Input) (held : List ℕ) (ticks0 ticks : Ticks) (state : State) : Type 0 where
   pub answered : List Turn
@@ -102,6 +113,8 @@ pub record Served (s : State) (d0 d : Disk) (input0 input : Input) (held : List 
   pub standing : Standing d state
   pub sent : d.sent ≡ d0.sent ++ replies s outcomes
   pub during : During d0 d (CoveredSo s outcomes d0.sent)
+  pub unbroken : EndsBroken answered → ⊥
+  pub going : is_over (last_number s outcomes) ≡ false
 
 -- before the first
 pub none_served : (s : State) (d : Disk) (input : Input) (held : List ℕ) (ticks : Ticks) → held ≡ [] → Standing d s → Served s d d input input held ticks ticks s
@@ -115,11 +128,12 @@ none_served s d input held ticks new standing = record {
   standing = standing;
   sent = sym (append-nil d.sent);
   during = started d (CoveredSo s [] d.sent);
+  unbroken = λ ends. ends;
+  going = refl;
 }
 
 -- what is so of the disk once the last of all outcomes was answered
 pub record Ended (s : State) (d0 d : Disk) (all : List Outcome) (status : ℕ) : Type 0 where
-  pub status_is : (status ≡ 0) ⊎ ((status ≡ last_number s all) ⊎ (status ≡ 20))
   pub sent : status ≢ 20 → d.sent ≡ d0.sent ++ replies s all
   pub part : (rest : List ℕ) × (d.sent ++ rest ≡ d0.sent ++ replies s all)
   pub now : (c : Image) → d.may_leave c → EndsAfter s all c
@@ -152,12 +166,11 @@ module _ (found : Result State ℕ) (s : State) (d0 d : Disk) (input0 input : In
         (weaker d0 d (CoveredSo s served.outcomes d0.sent) (CoveredSo s all d0.sent) (λ c b covered. covered_more s served.outcomes o d0.sent c b covered) served.during)
         (weaker d d' (CoversOne state o d.sent) (CoveredSo s all d0.sent) covers during)
 
-    number_is : number_of (said state o) ≡ last_number s all
+    pub number_is : number_of (said state o) ≡ last_number s all
     number_is = ap (λ (x : State). number_of (said x o)) served.state_is ∙ sym (last_push s served.outcomes o)
 
     pub ended : (status : ℕ) → (status ≡ 20) ⊎ ((status ≡ number_of (said state o)) × (d'.sent ≡ d.sent ++ framed (said state o))) → Ended s d0 d' all status
     ended status whole = record {
-      status_is = ⊎_elim (λ unsent. inr (inr unsent)) (λ w. inr (inl (w.0 ∙ number_is))) whole;
       sent = λ ne. ⊎_elim (λ unsent. absurd (ne unsent)) (λ w. w.1 ∙ text_is) whole;
       part = (part.0, part.1 ∙ text_is);
       now = λ c left. ends_so c (now c left);
@@ -166,7 +179,6 @@ module _ (found : Result State ℕ) (s : State) (d0 d : Disk) (input0 input : In
 
     pub ended_well : d'.sent ≡ d.sent ++ framed (said state o) → Ended s d0 d' all 0
     ended_well whole = record {
-      status_is = inl refl;
       sent = λ ne. whole ∙ text_is;
       part = (part.0, part.1 ∙ text_is);
       now = λ c left. ends_so c (now c left);
@@ -188,25 +200,26 @@ module _ (found : Result State ℕ) (s : State) (d0 d : Disk) (input0 input : In
         standing = turned.turned.2;
         sent = turned.turned.0 ∙ text_is o d' turned.part turned.now turned.during;
         during = during_all o d' turned.part turned.now turned.during;
+        unbroken = ends_request served.answered words payload;
+        going = sym (ap is_over (number_is o d' turned.part turned.now turned.during)) ∙ turned.turned.3;
       }
 
   abbrev all_moments : Ticks → List Turn → List Outcome → Type 0
   all_moments ticks' ts os = ticks0.tells → ticks'.gave ≡ ticks0.gave ++ moments_taken ts os
 
   -- from what is known of the disk
-  serves : (d' : Disk) (input' : Input) (ticks' : Ticks) (status : ℕ) (ts : List Turn) (os closing every : List Outcome) → every ≡ os ++ closing → Answering ts os → IsOfVault found closing → (input0.tells → IsOfText input0.left input'.left ts closing status) → all_moments ticks' ts os → Ended s d0 d' every status
+  serves : (d' : Disk) (input' : Input) (ticks' : Ticks) (status : ℕ) (ts : List Turn) (os closing every : List Outcome) → every ≡ os ++ closing → Answering ts os → IsOfVault found closing → (input0.tells → IsOfText input0.left input'.left ts closing status) → all_moments ticks' ts os → IsStatus s ts os closing status → Ended s d0 d' every status
       → Serves found s d0 d' input0 input' ticks0 ticks' status
-  serves d' input' ticks' status ts os closing every every_is each vault text moments ended_so =
+  serves d' input' ticks' status ts os closing every every_is each vault text moments status_is ended_so =
       let e = subst (λ (l : List Outcome). Ended s d0 d' l status) every_is ended_so in
-      record { answered = ts; outcomes = os; closing = closing; each = each; vault = vault; text = text; moments = moments; status_is = e.status_is; sent = e.sent; part = e.part; now = e.now; during = e.during }
+      record { answered = ts; outcomes = os; closing = closing; each = each; vault = vault; text = text; moments = moments; status_is = status_is; sent = e.sent; part = e.part; now = e.now; during = e.during }
 
   -- the source has ended
   pub served_all : (input' : Input) → (input0.tells → held ++ input.left ≡ []) → Serves found s d0 d input0 input' ticks0 ticks 0
   served_all input' nothing =
       serves d input' ticks 0 served.answered served.outcomes [] served.outcomes (sym (append-nil served.outcomes)) served.each tt
-      (λ tells. record { behind = []; turns_are = served.text tells ∙ ap (λ (l : List ℕ). served.answered ++ turns l) (nothing tells); closing_is = tt; whole = λ z. refl }) served.moments
+      (λ tells. record { behind = []; turns_are = served.text tells ∙ ap (λ (l : List ℕ). served.answered ++ turns l) (nothing tells); closing_is = tt; whole = λ z. refl }) served.moments (inl (refl, refl, served.unbroken, served.going))
       (record {
-        status_is = inl refl;
         sent = λ ne. served.sent;
         part = ([], append-nil d.sent ∙ served.sent);
         now = λ c left. ends_state s served.outcomes c (served.standing.each c left ∙ ap (λ (x : State). Some (durable x)) served.state_is);
@@ -215,19 +228,23 @@ module _ (found : Result State ℕ) (s : State) (d0 d : Disk) (input0 input : In
 
   -- a request ended the session, or was the last
   module _ (words : List (List ℕ)) (payload : List ℕ) (d' : Disk) (input' : Input) (behind : List ℕ) (ticks' : Ticks) (state' : State) (text_goes : input0.tells → turns (held ++ input.left) ≡ request words payload ∷ turns behind) (tick_tells : ticks0.tells → ticks.tells) where
-    by_turn : (t : Turned) (status : ℕ) (turned : Turns state words payload d d' ticks ticks' state' t) → (status ≡ 0 → input0.tells → behind ≡ []) → Ended s d0 d' (served.outcomes ++ turned.outcome ∷ []) status → Serves found s d0 d' input0 input' ticks0 ticks' status
-    by_turn t status turned whole ended_so =
+    by_turn : (t : Turned) (status : ℕ) (turned : Turns state words payload d d' ticks ticks' state' t) → (status ≡ 0 → input0.tells → behind ≡ []) → IsStatus s (served.answered ++ request words payload ∷ []) (served.outcomes ++ turned.outcome ∷ []) [] status → Ended s d0 d' (served.outcomes ++ turned.outcome ∷ []) status → Serves found s d0 d' input0 input' ticks0 ticks' status
+    by_turn t status turned whole status_is ended_so =
         let o : Outcome = turned.outcome in
         serves d' input' ticks' status (served.answered ++ request words payload ∷ []) (served.outcomes ++ o ∷ []) [] (served.outcomes ++ o ∷ []) (sym (append-nil (served.outcomes ++ o ∷ []))) (answering_push served.answered served.outcomes words payload o served.each turned.answer_to) tt
         (λ tells. record { behind = behind; turns_are = served.text tells ∙ ap (λ (l : List Turn). served.answered ++ l) (text_goes tells) ∙ sym (append_assoc served.answered (request words payload ∷ []) (turns behind)); closing_is = tt; whole = λ z. whole z tells })
         (λ tells. turned.moment (tick_tells tells) ∙ ap (λ (l : List ℕ). l ++ moment_taken words o) (served.moments tells) ∙ append_assoc ticks0.gave (moments_taken served.answered served.outcomes) (moment_taken words o) ∙ ap (λ (l : List ℕ). ticks0.gave ++ l) (sym (moments_push served.answered served.outcomes words payload o served.each)))
-        ended_so
+        status_is ended_so
 
     pub over : (status : ℕ) → status ≢ 0 → Turns state words payload d d' ticks ticks' state' (Over status) → Serves found s d0 d' input0 input' ticks0 ticks' status
-    over status ne turned = by_turn (Over status) status turned (λ z tells. absurd (ne z)) (ended turned.outcome d' turned.part turned.now turned.during status turned.turned)
+    over status ne turned =
+        let os : List Outcome = served.outcomes ++ turned.outcome ∷ [] in
+        by_turn (Over status) status turned (λ z tells. absurd (ne z))
+        (⊎_elim (λ unsent. inr (inr unsent)) (λ w. inr (inl (w.0 ∙ number_is turned.outcome d' turned.part turned.now turned.during ∙ ap (λ (l : List Outcome). last_number s l) (sym (append-nil os)), inr (inr w.2)))) turned.turned)
+        (ended turned.outcome d' turned.part turned.now turned.during status (⊎_elim (λ unsent. inl unsent) (λ w. inr (w.0, w.1)) turned.turned))
 
     pub last_done : (input0.tells → behind ≡ []) → Turns state words payload d d' ticks ticks' state' On → Serves found s d0 d' input0 input' ticks0 ticks' 0
-    last_done nothing turned = by_turn On 0 turned (λ z tells. nothing tells) (ended_well turned.outcome d' turned.part turned.now turned.during turned.turned.0)
+    last_done nothing turned = by_turn On 0 turned (λ z tells. nothing tells) (inl (refl, refl, ends_request served.answered words payload, sym (ap is_over (number_is turned.outcome d' turned.part turned.now turned.during)) ∙ turned.turned.3)) (ended_well turned.outcome d' turned.part turned.now turned.during turned.turned.0)
 
     pub last_turned : (t : Turned) → (t ≢ Over 0) → (input0.tells → behind ≡ []) → Turns state words payload d d' ticks ticks' state' t → Serves found s d0 d' input0 input' ticks0 ticks' (last_status t)
     last_turned On ne nothing turned = last_done nothing turned
@@ -242,17 +259,22 @@ module _ (found : Result State ℕ) (s : State) (d0 d : Disk) (input0 input : In
         (weaker d d' (λ c b. d.may_leave c × SentPart d.sent (framed last.sent) b) (CoversOne state (refused last.sent) d.sent) (λ c b now. inr (served.standing.each c now.0, (now.1.rest, whole_of b now.1))) last.during)
         status last.whole
 
+    closing_number : number_of last.sent ≡ last_number s (served.outcomes ++ refused last.sent ∷ [])
+    closing_number = sym (last_push s served.outcomes (refused last.sent))
+
     pub closed : (input' : Input) (behind : List ℕ) → IsOfVault found (refused last.sent ∷ []) → (input0.tells → (behind ≡ held ++ input.left) × IsClosing behind input'.left (refused last.sent ∷ [])) → (status ≢ 0) → Serves found s d0 d' input0 input' ticks0 ticks status
     closed input' behind vault closing ne =
         serves d' input' ticks status served.answered served.outcomes (refused last.sent ∷ []) (served.outcomes ++ refused last.sent ∷ []) refl served.each vault
-        (λ tells. record { behind = behind; turns_are = served.text tells ∙ ap (λ (l : List ℕ). served.answered ++ turns l) (sym (closing tells).0); closing_is = (closing tells).1; whole = λ z. absurd (ne z) }) served.moments closing_ended
+        (λ tells. record { behind = behind; turns_are = served.text tells ∙ ap (λ (l : List ℕ). served.answered ++ turns l) (sym (closing tells).0); closing_is = (closing tells).1; whole = λ z. absurd (ne z) }) served.moments
+        (⊎_elim (λ unsent. inr (inr unsent)) (λ w. inr (inl (w.0 ∙ closing_number, inl (λ none. absurd (cc none))))) last.whole) closing_ended
 
     pub broken_off : (input' : Input) (index : ℕ) → a ≡ BadRequest index → (input0.tells → turns (held ++ input.left) ≡ broken index ∷ []) → (status ≢ 0) → Serves found s d0 d' input0 input' ticks0 ticks status
     broken_off input' index a_is text_goes ne =
         let is : (refused last.sent ≡ refused (BadRequest index)) ⊎ (refused last.sent ≡ refused OutOfMemory) = ⊎_elim (λ same. inl (ap refused (same ∙ a_is))) (λ out. inr (ap refused out.0)) last.is in
         serves d' input' ticks status (served.answered ++ broken index ∷ []) (served.outcomes ++ refused last.sent ∷ []) [] (served.outcomes ++ refused last.sent ∷ []) (sym (append-nil (served.outcomes ++ refused last.sent ∷ []))) (answering_broken served.answered served.outcomes index (refused last.sent) served.each is) tt
         (λ tells. record { behind = []; turns_are = served.text tells ∙ ap (λ (l : List Turn). served.answered ++ l) (text_goes tells) ∙ sym (append-nil (served.answered ++ broken index ∷ [])); closing_is = tt; whole = λ z. refl })
-        (λ tells. served.moments tells ∙ ap (λ (l : List ℕ). ticks0.gave ++ l) (sym (moments_broken served.answered served.outcomes index (refused last.sent) served.each))) closing_ended
+        (λ tells. served.moments tells ∙ ap (λ (l : List ℕ). ticks0.gave ++ l) (sym (moments_broken served.answered served.outcomes index (refused last.sent) served.each)))
+        (⊎_elim (λ unsent. inr (inr unsent)) (λ w. inr (inl (w.0 ∙ closing_number ∙ ap (λ (l : List Outcome). last_number s l) (sym (append-nil (served.outcomes ++ refused last.sent ∷ []))), inr (inl (ends_broken served.answered index))))) last.whole) closing_ended
 
 -- a session from the start of a run
 module _ (s : State) (d0 d1 : Disk) (starts : (c : Image) → d1.may_leave c → stands c ≡ Some (durable s)) (sent : d1.sent ≡ d0.sent) (opening : During d0 d1 (λ c b. (stands c ≡ Some (durable s)) × (b ≡ d0.sent))) where
@@ -327,6 +349,8 @@ module _ (s : State) (d0 d1 : Disk) (starts : (c : Image) → d1.may_leave c →
         standing = record { each = starts };
         sent = sent ∙ sym (append-nil d0.sent);
         during = covered_at_start [];
+        unbroken = λ ends. ends;
+        going = refl;
       })
       (refusal_of refusal) d2 status last input input.left (vault_fault found refusal last.sent is_fault last.is) (λ tells. (refl, closing_fault refusal last.sent input.left input.left last.is))
       (λ z. ⊎_elim (λ unsent. omega (arith, unsent, z)) (λ w. not_done refusal last.sent last.is (sym w.0 ∙ z)) last.whole)

@@ -12,7 +12,7 @@ use Rattle.desk_model.specs.State.{State, durable}
 use Rattle.desk_model.specs.Replay.{Mark, plain, memory, fault, Entry, marked_answer, marked_state}
 use Rattle.site_desk.specs.Stands.{stands, Standing}
 use Rattle.bp_cli.specs.Runs.{Outcome, refused, carried, said, Ends}
-use Rattle.bp_cli.specs.Sessions.{framed, after_outcome, moment_taken, IsAnswerTo, Takes, IsWholeReply, IsTurned, CoversOne, Turns}
+use Rattle.bp_cli.specs.Sessions.{framed, is_over, after_outcome, moment_taken, IsAnswerTo, Takes, IsWholeReply, IsTurned, CoversOne, Turns}
 use Rattle.bp_cli.specs.declared.turn.Turned.{Turned}
 use Rattle.bp_cli.specs.declared.turn.Turned.TheVariants.{On, Over}
 use Rattle.bp_cli.proofs.Replying.{unmoved}
@@ -72,8 +72,8 @@ module _ (s : State) (words : List (List ℕ)) (payload : List ℕ) (d0 d1 d2 : 
     }
 
     pub turned_by : (t : Turned) → IsWholeReply sent d1 d2 t → (t ≡ On → (state ≡ after_outcome s o) × Standing d1 state) → Turns s words payload d0 d2 ticks ticks' state t
-    turned_by On whole moves = turned_so On (whole ∙ text_is, (moves refl).0, record { each = λ c left. (moves refl).1.each c (rests.left c left) })
-    turned_by (Over status) whole moves = turned_so (Over status) (⊎_elim (λ unsent. inl unsent) (λ w. inr (w.0 ∙ ap number_of sent_is, w.1 ∙ text_is)) whole)
+    turned_by On whole moves = turned_so On (whole.0 ∙ text_is, (moves refl).0, record { each = λ c left. (moves refl).1.each c (rests.left c left) }, sym (ap (λ (a : Answer). is_over (number_of a)) sent_is) ∙ whole.1)
+    turned_by (Over status) whole moves = turned_so (Over status) (⊎_elim (λ unsent. inl unsent) (λ w. inr (w.0 ∙ ap number_of sent_is, w.1 ∙ text_is, w.2)) whole)
 
   module _ (a : Answer) (state1 : State) (takes : Takes s words payload d0 d1 ticks ticks' a state1) (state_is : state ≡ state1) (sent : Answer) (is : (sent ≡ a) ⊎ ((sent ≡ OutOfMemory) × NeedsMemory a))
       (second : During d1 d2 (λ c b. d1.may_leave c × SentPart d1.sent (framed sent) b)) (part : SentPart d1.sent (framed sent) d2.sent) (t : Turned) (whole : IsWholeReply sent d1 d2 t) (running : t ≡ On → a ≢ DiskFault) where

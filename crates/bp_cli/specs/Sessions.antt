@@ -146,8 +146,31 @@ last_number s [] = 0
 last_number s (o ∷ []) = number_of (said s o)
 last_number s (o ∷ p ∷ os) = last_number (after_outcome s o) (p ∷ os)
 
+-- a fault of the disk, the source or the clock ends a session
+abbrev pub is_over : ℕ → Bool
+is_over number = number == 18 || number == 19 || number == 21
+
+-- as does want of memory while a request is read
+abbrev pub IsOverBy : ℕ → Type 0
+IsOverBy status = (is_over status ≡ true) ⊎ (status ≡ 1)
+
+-- the last of these turns is a fault in the framing
+abbrev pub EndsBroken : List Turn → Type 0
+EndsBroken [] = ⊥
+EndsBroken (request words payload ∷ []) = ⊥
+EndsBroken (broken index ∷ []) = Unit {0}
+EndsBroken (t ∷ u ∷ ts) = EndsBroken (u ∷ ts)
+
+-- The status is 0 where nothing ended the session but the end of its text. Else it is the number of the last answer, which is a fault's, or none to a turn, or to a fault
+-- in the framing, or want of memory; or it is 20.
+abbrev pub IsStatus : State → List Turn → List Outcome → List Outcome → ℕ → Type 0
+IsStatus s ts os closing status =
+    ((status ≡ 0) × (closing ≡ []) × (EndsBroken ts → ⊥) × (is_over (last_number s os) ≡ false))
+    ⊎ (((status ≡ last_number s (os ++ closing)) × ((closing ≢ []) ⊎ (EndsBroken ts ⊎ IsOverBy status)))
+    ⊎ (status ≡ 20))
+
 -- What came of a session from a state: the turns that were answered and their outcomes, and what ended it. What is sent are the model's replies, or their first bytes
--- where a send failed; the status is 0 where the input was read to its end, else the number of the last answer, or 20 where a send failed.
+-- where a send failed.
 pub record Serves (found : Result State ℕ) (s : State) (disk disk' : Disk) (input input' : Input) (ticks ticks' : Ticks) (status : ℕ) : Type 0 where
   pub answered : List Turn
   pub outcomes : List Outcome
@@ -156,7 +179,7 @@ pub record Serves (found : Result State ℕ) (s : State) (disk disk' : Disk) (in
   pub vault : IsOfVault found closing
   pub text : input.tells → IsOfText input.left input'.left answered closing status
   pub moments : ticks.tells → ticks'.gave ≡ ticks.gave ++ moments_taken answered outcomes
-  pub status_is : (status ≡ 0) ⊎ ((status ≡ last_number s (outcomes ++ closing)) ⊎ (status ≡ 20))
+  pub status_is : IsStatus s answered outcomes closing status
   pub sent : status ≢ 20 → disk'.sent ≡ disk.sent ++ replies s (outcomes ++ closing)
   pub part : (rest : List ℕ) × (disk'.sent ++ rest ≡ disk.sent ++ replies s (outcomes ++ closing))
   pub now : (c : Image) → disk'.may_leave c → EndsAfter s (outcomes ++ closing) c
@@ -197,8 +220,8 @@ pub record RepliesFramed (a : Answer) (old new : Disk) {E : Type 0} (result : Re
 
 -- a request of a session was answered and its reply sent, or a first part of that; the session goes on, or it is over
 abbrev pub IsTurned : State → Outcome → Disk → Disk → State → Turned → Type 0
-IsTurned s o disk disk' state On = (disk'.sent ≡ disk.sent ++ framed (said s o)) × (state ≡ after_outcome s o) × Standing disk' state
-IsTurned s o disk disk' state (Over status) = (status ≡ 20) ⊎ ((status ≡ number_of (said s o)) × (disk'.sent ≡ disk.sent ++ framed (said s o)))
+IsTurned s o disk disk' state On = (disk'.sent ≡ disk.sent ++ framed (said s o)) × (state ≡ after_outcome s o) × Standing disk' state × (is_over (number_of (said s o)) ≡ false)
+IsTurned s o disk disk' state (Over status) = (status ≡ 20) ⊎ ((status ≡ number_of (said s o)) × (disk'.sent ≡ disk.sent ++ framed (said s o)) × IsOverBy status)
 
 -- before a request the disk stands for the state before it and nothing of its reply is sent; afterwards for the one in which it ends, and at most its reply is
 abbrev pub CoversOne : State → Outcome → List ℕ → Image → List ℕ → Type 0
@@ -213,13 +236,9 @@ pub record Turns (s : State) (words : List (List ℕ)) (payload : List ℕ) (dis
   pub during : During disk disk' (CoversOne s outcome disk.sent)
   pub turned : IsTurned s outcome disk disk' state t
 
--- a fault of the disk, the source or the clock ends a session
-abbrev pub is_over : ℕ → Bool
-is_over number = number == 18 || number == 19 || number == 21
-
 abbrev pub IsWholeReply : Answer → Disk → Disk → Turned → Type 0
-IsWholeReply sent old new On = new.sent ≡ old.sent ++ framed sent
-IsWholeReply sent old new (Over status) = (status ≡ 20) ⊎ ((status ≡ number_of sent) × (new.sent ≡ old.sent ++ framed sent))
+IsWholeReply sent old new On = (new.sent ≡ old.sent ++ framed sent) × (is_over (number_of sent) ≡ false)
+IsWholeReply sent old new (Over status) = (status ≡ 20) ⊎ ((status ≡ number_of sent) × (new.sent ≡ old.sent ++ framed sent) × IsOverBy status)
 
 -- an answer was sent with its frame, or want of memory in its place, and whether the session goes on behind it; status 20 where the send failed
 pub record RepliesOn (a : Answer) (old new : Disk) (t : Turned) : Type 0 where

@@ -1,4 +1,5 @@
-use Rattle.std.proofs.Common.{arith, sym, subst, ⊎_elim, ℕ}
+use Rattle.std.proofs.Common.{◌∙◌, ap, inl, inr, arith, sym, subst, ⊎_elim, ℕ}
+use Rattle.site_types.specs.Answers.{number_of}
 use Rattle.vault_disk.specs.Steps.{Rose}
 use Rattle.site_types.specs.declared.answer.Answer.TheVariants.{OutOfMemory}
 use Rattle.bp_cli.specs.declared.turn.Turned.TheVariants.{Over}
@@ -18,7 +19,8 @@ returns-in-None-clause-turns g c told standing =
     let told1 = c.answer_request.ensures.same.tells told in
     let last = c.reply_last.ensures.last told1 in
     turns c.args.desk.now.state c.args.asked.now.words c.args.asked.now.payload (g.M.Vault.disk c.args.desk.now.vault) (g.M.Vault.disk c.answer_request.new.desk.vault) (g.M.Vault.disk c.reply_last.new.desk.vault) (g.C.Clock.ticks c.args.clock.now) (g.C.Clock.ticks c.answer_request.new.clock) c.answer_request.ensures.same.sent last.rests c.reply_last.new.desk.state
-    OutOfMemory c.answer_request.new.desk.state (c.in-None.ensures.takes told standing) (c.reply_last.ensures.state told1) last.sent last.is last.during last.part (Over c.reply_last.result) last.whole (λ on. absurd (cc on))
+    OutOfMemory c.answer_request.new.desk.state (c.in-None.ensures.takes told standing) (c.reply_last.ensures.state told1) last.sent last.is last.during last.part (Over c.reply_last.result)
+    (⊎_elim (λ unsent. inl unsent) (λ w. inr (w.0, w.1, inr (w.0 ∙ ap number_of (⊎_elim (λ same. same) (λ out. out.0) last.is)))) last.whole) (λ on. absurd (cc on))
 
 pub returns-in-Some-clause-not_read : goal.returns-in-Some-clause-not_read
 returns-in-Some-clause-not_read g c is = ⊎_elim (λ number. c.in-Some.ensures.not_read (is_read_fault c.in-Some.answer (sym number))) (λ unsent. omega (arith, unsent.0)) (c.reply_on.ensures.status 19 is)
