@@ -19,7 +19,7 @@ use Rattle.desk_model.specs.Replay.{Mark, plain, memory, fault, Entry, marked_st
 use Rattle.site_desk.specs.Desk.{IsFaultOf}
 use Rattle.site_desk.specs.Stands.{opened, stands, Standing}
 use Rattle.bp_cli.specs.Runs.{Outcome, refused, carried, said, EndsBy, Ends, refusal_of}
-use Rattle.bp_cli.specs.Sessions.{framed, is_over, EndsBroken, IsStatus, after_outcome, state_after, replies, EndsAfter, CoveredSo, IsAnswerTo, Answering, moment_taken, moments_taken, IsClosing, IsOfText, IsOfVault, last_number, last_status, Serves, CoversOne, Turns, RanSession, RepliesLast, RepliesUnopened}
+use Rattle.bp_cli.specs.Sessions.{framed, is_over, AllGoOn, GoesOn, EndsBroken, IsStatus, after_outcome, state_after, replies, EndsAfter, CoveredSo, IsAnswerTo, Answering, moment_taken, moments_taken, IsClosing, IsOfText, IsOfVault, last_number, last_status, Serves, CoversOne, Turns, RanSession, RepliesLast, RepliesUnopened}
 use Rattle.bp_cli.specs.declared.turn.Turned.{Turned}
 use Rattle.bp_cli.specs.declared.turn.Turned.TheVariants.{On, Over}
 
@@ -91,6 +91,26 @@ moments_broken (t ∷ ts) [] index o each = absurd each
 moments_broken (request w q ∷ ts) (p ∷ os) index o each = ap (λ (l : List ℕ). moment_taken w p ++ l) (moments_broken ts os index o each.1)
 moments_broken (broken i ∷ ts) (p ∷ os) index o each = moments_broken ts os index o each.1
 
+-- whether a session goes on
+all_going : (s : State) (os : List Outcome) (o : Outcome) → AllGoOn s os → is_over (number_of (said (state_after s os) o)) ≡ false → AllGoOn s (os ++ o ∷ [])
+all_going s [] o going here = (here, tt)
+all_going s (p ∷ os) o going here = (going.0, all_going (after_outcome s p) os o going.1 here)
+
+but_last : (s : State) (os : List Outcome) (o : Outcome) → AllGoOn s os → GoesOn s (os ++ o ∷ [])
+but_last s [] o going = tt
+but_last s (p ∷ []) o going = (going.0, tt)
+but_last s (p ∷ q ∷ os) o going = (going.0, but_last (after_outcome s p) (q ∷ os) o going.1)
+
+all_on : (s : State) (os : List Outcome) → AllGoOn s os → GoesOn s os
+all_on s [] going = tt
+all_on s (p ∷ []) going = tt
+all_on s (p ∷ q ∷ os) going = (going.0, all_on (after_outcome s p) (q ∷ os) going.1)
+
+last_going : (s : State) (os : List Outcome) → AllGoOn s os → is_over (last_number s os) ≡ false
+last_going s [] going = refl
+last_going s (p ∷ []) going = going.0
+last_going s (p ∷ q ∷ os) going = last_going (after_outcome s p) (q ∷ os) going.1
+
 -- whether the last turn is a fault in the framing
 ends_request : (ts : List Turn) (words : List (List ℕ)) (payload : List ℕ) → EndsBroken (ts ++ request words payload ∷ []) → ⊥
 ends_request [] words payload ends = ends
@@ -114,7 +134,7 @@ pub record Served (s : State) (d0 d : Disk) (input0 input : Input) (held : List 
   pub sent : d.sent ≡ d0.sent ++ replies s outcomes
   pub during : During d0 d (CoveredSo s outcomes d0.sent)
   pub unbroken : EndsBroken answered → ⊥
-  pub going : is_over (last_number s outcomes) ≡ false
+  pub going : AllGoOn s outcomes
 
 -- before the first
 pub none_served : (s : State) (d : Disk) (input : Input) (held : List ℕ) (ticks : Ticks) → held ≡ [] → Standing d s → Served s d d input input held ticks ticks s
@@ -129,7 +149,7 @@ none_served s d input held ticks new standing = record {
   sent = sym (append-nil d.sent);
   during = started d (CoveredSo s [] d.sent);
   unbroken = λ ends. ends;
-  going = refl;
+  going = tt;
 }
 
 -- what is so of the disk once the last of all outcomes was answered
@@ -201,24 +221,24 @@ module _ (found : Result State ℕ) (s : State) (d0 d : Disk) (input0 input : In
         sent = turned.turned.0 ∙ text_is o d' turned.part turned.now turned.during;
         during = during_all o d' turned.part turned.now turned.during;
         unbroken = ends_request served.answered words payload;
-        going = sym (ap is_over (number_is o d' turned.part turned.now turned.during)) ∙ turned.turned.3;
+        going = all_going s served.outcomes o served.going (subst (λ (x : State). is_over (number_of (said x o)) ≡ false) served.state_is turned.turned.3);
       }
 
   abbrev all_moments : Ticks → List Turn → List Outcome → Type 0
   all_moments ticks' ts os = ticks0.tells → ticks'.gave ≡ ticks0.gave ++ moments_taken ts os
 
   -- from what is known of the disk
-  serves : (d' : Disk) (input' : Input) (ticks' : Ticks) (status : ℕ) (ts : List Turn) (os closing every : List Outcome) → every ≡ os ++ closing → Answering ts os → IsOfVault found closing → (input0.tells → IsOfText input0.left input'.left ts closing status) → all_moments ticks' ts os → IsStatus s ts os closing status → Ended s d0 d' every status
+  serves : (d' : Disk) (input' : Input) (ticks' : Ticks) (status : ℕ) (ts : List Turn) (os closing every : List Outcome) → every ≡ os ++ closing → Answering ts os → IsOfVault found closing → (input0.tells → IsOfText input0.left input'.left ts closing status) → all_moments ticks' ts os → IsStatus s ts os closing status → GoesOn s every → Ended s d0 d' every status
       → Serves found s d0 d' input0 input' ticks0 ticks' status
-  serves d' input' ticks' status ts os closing every every_is each vault text moments status_is ended_so =
+  serves d' input' ticks' status ts os closing every every_is each vault text moments status_is goes_on ended_so =
       let e = subst (λ (l : List Outcome). Ended s d0 d' l status) every_is ended_so in
-      record { answered = ts; outcomes = os; closing = closing; each = each; vault = vault; text = text; moments = moments; status_is = status_is; sent = e.sent; part = e.part; now = e.now; during = e.during }
+      record { answered = ts; outcomes = os; closing = closing; each = each; vault = vault; text = text; moments = moments; goes_on = subst (λ (l : List Outcome). GoesOn s l) every_is goes_on; status_is = status_is; sent = e.sent; part = e.part; now = e.now; during = e.during }
 
   -- the source has ended
   pub served_all : (input' : Input) → (input0.tells → held ++ input.left ≡ []) → Serves found s d0 d input0 input' ticks0 ticks 0
   served_all input' nothing =
       serves d input' ticks 0 served.answered served.outcomes [] served.outcomes (sym (append-nil served.outcomes)) served.each tt
-      (λ tells. record { behind = []; turns_are = served.text tells ∙ ap (λ (l : List ℕ). served.answered ++ turns l) (nothing tells); closing_is = tt; whole = λ z. refl }) served.moments (inl (refl, refl, served.unbroken, served.going))
+      (λ tells. record { behind = []; turns_are = served.text tells ∙ ap (λ (l : List ℕ). served.answered ++ turns l) (nothing tells); closing_is = tt; whole = λ z. refl }) served.moments (inl (refl, refl, served.unbroken, last_going s served.outcomes served.going)) (all_on s served.outcomes served.going)
       (record {
         sent = λ ne. served.sent;
         part = ([], append-nil d.sent ∙ served.sent);
@@ -234,7 +254,7 @@ module _ (found : Result State ℕ) (s : State) (d0 d : Disk) (input0 input : In
         serves d' input' ticks' status (served.answered ++ request words payload ∷ []) (served.outcomes ++ o ∷ []) [] (served.outcomes ++ o ∷ []) (sym (append-nil (served.outcomes ++ o ∷ []))) (answering_push served.answered served.outcomes words payload o served.each turned.answer_to) tt
         (λ tells. record { behind = behind; turns_are = served.text tells ∙ ap (λ (l : List Turn). served.answered ++ l) (text_goes tells) ∙ sym (append_assoc served.answered (request words payload ∷ []) (turns behind)); closing_is = tt; whole = λ z. whole z tells })
         (λ tells. turned.moment (tick_tells tells) ∙ ap (λ (l : List ℕ). l ++ moment_taken words o) (served.moments tells) ∙ append_assoc ticks0.gave (moments_taken served.answered served.outcomes) (moment_taken words o) ∙ ap (λ (l : List ℕ). ticks0.gave ++ l) (sym (moments_push served.answered served.outcomes words payload o served.each)))
-        status_is ended_so
+        status_is (but_last s served.outcomes o served.going) ended_so
 
     pub over : (status : ℕ) → status ≢ 0 → Turns state words payload d d' ticks ticks' state' (Over status) → Serves found s d0 d' input0 input' ticks0 ticks' status
     over status ne turned =
@@ -266,7 +286,7 @@ module _ (found : Result State ℕ) (s : State) (d0 d : Disk) (input0 input : In
     closed input' behind vault closing ne =
         serves d' input' ticks status served.answered served.outcomes (refused last.sent ∷ []) (served.outcomes ++ refused last.sent ∷ []) refl served.each vault
         (λ tells. record { behind = behind; turns_are = served.text tells ∙ ap (λ (l : List ℕ). served.answered ++ turns l) (sym (closing tells).0); closing_is = (closing tells).1; whole = λ z. absurd (ne z) }) served.moments
-        (⊎_elim (λ unsent. inr (inr unsent)) (λ w. inr (inl (w.0 ∙ closing_number, inl (λ none. absurd (cc none))))) last.whole) closing_ended
+        (⊎_elim (λ unsent. inr (inr unsent)) (λ w. inr (inl (w.0 ∙ closing_number, inl (λ none. absurd (cc none))))) last.whole) (but_last s served.outcomes (refused last.sent) served.going) closing_ended
 
     pub broken_off : (input' : Input) (index : ℕ) → a ≡ BadRequest index → (input0.tells → turns (held ++ input.left) ≡ broken index ∷ []) → (status ≢ 0) → Serves found s d0 d' input0 input' ticks0 ticks status
     broken_off input' index a_is text_goes ne =
@@ -274,7 +294,7 @@ module _ (found : Result State ℕ) (s : State) (d0 d : Disk) (input0 input : In
         serves d' input' ticks status (served.answered ++ broken index ∷ []) (served.outcomes ++ refused last.sent ∷ []) [] (served.outcomes ++ refused last.sent ∷ []) (sym (append-nil (served.outcomes ++ refused last.sent ∷ []))) (answering_broken served.answered served.outcomes index (refused last.sent) served.each is) tt
         (λ tells. record { behind = []; turns_are = served.text tells ∙ ap (λ (l : List Turn). served.answered ++ l) (text_goes tells) ∙ sym (append-nil (served.answered ++ broken index ∷ [])); closing_is = tt; whole = λ z. refl })
         (λ tells. served.moments tells ∙ ap (λ (l : List ℕ). ticks0.gave ++ l) (sym (moments_broken served.answered served.outcomes index (refused last.sent) served.each)))
-        (⊎_elim (λ unsent. inr (inr unsent)) (λ w. inr (inl (w.0 ∙ closing_number ∙ ap (λ (l : List Outcome). last_number s l) (sym (append-nil (served.outcomes ++ refused last.sent ∷ []))), inr (inl (ends_broken served.answered index))))) last.whole) closing_ended
+        (⊎_elim (λ unsent. inr (inr unsent)) (λ w. inr (inl (w.0 ∙ closing_number ∙ ap (λ (l : List Outcome). last_number s l) (sym (append-nil (served.outcomes ++ refused last.sent ∷ []))), inr (inl (ends_broken served.answered index))))) last.whole) (but_last s served.outcomes (refused last.sent) served.going) closing_ended
 
 -- a session from the start of a run
 module _ (s : State) (d0 d1 : Disk) (starts : (c : Image) → d1.may_leave c → stands c ≡ Some (durable s)) (sent : d1.sent ≡ d0.sent) (opening : During d0 d1 (λ c b. (stands c ≡ Some (durable s)) × (b ≡ d0.sent))) where
@@ -295,6 +315,7 @@ module _ (s : State) (d0 d1 : Disk) (starts : (c : Image) → d1.may_leave c →
         vault = x.vault;
         text = x.text;
         moments = x.moments;
+        goes_on = x.goes_on;
         status_is = x.status_is;
         sent = λ ne. x.sent ne ∙ ap (λ (l : List ℕ). l ++ replies (durable s) os) sent;
         part = (x.part.0, x.part.1 ∙ ap (λ (l : List ℕ). l ++ replies (durable s) os) sent);
@@ -350,7 +371,7 @@ module _ (s : State) (d0 d1 : Disk) (starts : (c : Image) → d1.may_leave c →
         sent = sent ∙ sym (append-nil d0.sent);
         during = covered_at_start [];
         unbroken = λ ends. ends;
-        going = refl;
+        going = tt;
       })
       (refusal_of refusal) d2 status last input input.left (vault_fault found refusal last.sent is_fault last.is) (λ tells. (refl, closing_fault refusal last.sent input.left input.left last.is))
       (λ z. ⊎_elim (λ unsent. omega (arith, unsent, z)) (λ w. not_done refusal last.sent last.is (sym w.0 ∙ z)) last.whole)
@@ -369,6 +390,7 @@ session_ran s d0 d2 input input' ticks ticks' status p0 p1 standing only x =
         vault = x.vault;
         text = x.text;
         moments = x.moments;
+        goes_on = x.goes_on;
         status_is = x.status_is;
         sent = x.sent;
         part = x.part;

@@ -154,6 +154,16 @@ is_over number = number == 18 || number == 19 || number == 21
 abbrev pub IsOverBy : ℕ → Type 0
 IsOverBy status = (is_over status ≡ true) ⊎ (status ≡ 1)
 
+-- a session goes on behind each of these, and behind each but the last of these
+abbrev pub AllGoOn : State → List Outcome → Type 0
+AllGoOn s [] = Unit {0}
+AllGoOn s (o ∷ os) = (is_over (number_of (said s o)) ≡ false) × AllGoOn (after_outcome s o) os
+
+abbrev pub GoesOn : State → List Outcome → Type 0
+GoesOn s [] = Unit {0}
+GoesOn s (o ∷ []) = Unit {0}
+GoesOn s (o ∷ p ∷ os) = (is_over (number_of (said s o)) ≡ false) × GoesOn (after_outcome s o) (p ∷ os)
+
 -- the last of these turns is a fault in the framing
 abbrev pub EndsBroken : List Turn → Type 0
 EndsBroken [] = ⊥
@@ -169,7 +179,7 @@ IsStatus s ts os closing status =
     ⊎ (((status ≡ last_number s (os ++ closing)) × ((closing ≢ []) ⊎ (EndsBroken ts ⊎ IsOverBy status)))
     ⊎ (status ≡ 20))
 
--- What came of a session from a state: the turns that were answered and their outcomes, and what ended it. What is sent are the model's replies, or their first bytes
+-- What came of a session from a state: the turns that were answered and their outcomes, and what ended it; no answer but the last is a fault's. What is sent are the model's replies, or their first bytes
 -- where a send failed.
 pub record Serves (found : Result State ℕ) (s : State) (disk disk' : Disk) (input input' : Input) (ticks ticks' : Ticks) (status : ℕ) : Type 0 where
   pub answered : List Turn
@@ -179,6 +189,7 @@ pub record Serves (found : Result State ℕ) (s : State) (disk disk' : Disk) (in
   pub vault : IsOfVault found closing
   pub text : input.tells → IsOfText input.left input'.left answered closing status
   pub moments : ticks.tells → ticks'.gave ≡ ticks.gave ++ moments_taken answered outcomes
+  pub goes_on : GoesOn s (outcomes ++ closing)
   pub status_is : IsStatus s answered outcomes closing status
   pub sent : status ≢ 20 → disk'.sent ≡ disk.sent ++ replies s (outcomes ++ closing)
   pub part : (rest : List ℕ) × (disk'.sent ++ rest ≡ disk.sent ++ replies s (outcomes ++ closing))
