@@ -282,7 +282,7 @@ module _ (found : Result State ℕ) (s : State) (d0 d : Disk) (input0 input : In
     closing_number : number_of last.sent ≡ last_number s (served.outcomes ++ refused last.sent ∷ [])
     closing_number = sym (last_push s served.outcomes (refused last.sent))
 
-    pub closed : (input' : Input) (behind : List ℕ) → IsOfVault found (refused last.sent ∷ []) → (input0.tells → (behind ≡ held ++ input.left) × IsClosing behind input'.left (refused last.sent ∷ [])) → (status ≢ 0) → Serves found s d0 d' input0 input' ticks0 ticks status
+    pub closed : (input' : Input) (behind : List ℕ) → IsOfVault found (refused last.sent ∷ []) → (input0.tells → (behind ≡ held ++ input.left) × IsClosing input0.left behind input'.left (refused last.sent ∷ [])) → (status ≢ 0) → Serves found s d0 d' input0 input' ticks0 ticks status
     closed input' behind vault closing ne =
         serves d' input' ticks status served.answered served.outcomes (refused last.sent ∷ []) (served.outcomes ++ refused last.sent ∷ []) refl served.each vault
         (λ tells. record { behind = behind; turns_are = served.text tells ∙ ap (λ (l : List ℕ). served.answered ++ turns l) (sym (closing tells).0); closing_is = (closing tells).1; whole = λ z. absurd (ne z) }) served.moments
@@ -331,13 +331,13 @@ module _ (s : State) (d0 d1 : Disk) (starts : (c : Image) → d1.may_leave c →
       whole (Ok v) is all_sent = inr (is, all_sent)
       whole (Err e) is all_sent = inl is
 
-  closing_fault : (refusal : JournalFault) (a : Answer) (behind left : List ℕ) → (a ≡ refusal_of refusal) ⊎ ((a ≡ OutOfMemory) × NeedsMemory (refusal_of refusal)) → IsClosing behind left (refused a ∷ [])
-  closing_fault refusal a behind left = ⊎_elim (λ is. subst (λ (x : Answer). IsClosing behind left (refused x ∷ [])) (sym is) (at refusal)) (λ out. subst (λ (x : Answer). IsClosing behind left (refused x ∷ [])) (sym out.0) tt)
+  closing_fault : (refusal : JournalFault) (a : Answer) (text left : List ℕ) → (a ≡ refusal_of refusal) ⊎ ((a ≡ OutOfMemory) × NeedsMemory (refusal_of refusal)) → IsClosing text text left (refused a ∷ [])
+  closing_fault refusal a text left = ⊎_elim (λ is. subst (λ (x : Answer). IsClosing text text left (refused x ∷ [])) (sym is) (at refusal)) (λ out. subst (λ (x : Answer). IsClosing text text left (refused x ∷ [])) (sym out.0) tt)
     where
-      at : (f : JournalFault) → IsClosing behind left (refused (refusal_of f) ∷ [])
+      at : (f : JournalFault) → IsClosing text text left (refused (refusal_of f) ∷ [])
       at journal.NoMemory = tt
-      at journal.DiskFault = tt
-      at (journal.NotAVault offset) = tt
+      at journal.DiskFault = refl
+      at (journal.NotAVault offset) = refl
 
   vault_fault : (found : Result State ℕ) (refusal : JournalFault) (a : Answer) → IsFaultOf found refusal → (a ≡ refusal_of refusal) ⊎ ((a ≡ OutOfMemory) × NeedsMemory (refusal_of refusal)) → IsOfVault found (refused a ∷ [])
   vault_fault found refusal a is_fault = ⊎_elim (λ is. subst (λ (x : Answer). IsOfVault found (refused x ∷ [])) (sym is) (at refusal is_fault)) (λ out. subst (λ (x : Answer). IsOfVault found (refused x ∷ [])) (sym out.0) tt)

@@ -120,13 +120,13 @@ moments_taken _ _ = []
 
 -- What ends a session and is no answer to a turn: a vault that isn't opened, before the first; a read that failed, where what the source gave holds no whole turn
 -- more; or want of memory.
-abbrev pub IsClosing : List ℕ → List ℕ → List Outcome → Type 0
-IsClosing behind left [] = Unit {0}
-IsClosing behind left (refused OutOfMemory ∷ []) = Unit {0}
-IsClosing behind left (refused ReadFault ∷ []) = (held : List ℕ) × (behind ≡ held ++ left) × (whole_turn held ≡ None)
-IsClosing behind left (refused DiskFault ∷ []) = Unit {0}
-IsClosing behind left (refused (NotAVault offset) ∷ []) = Unit {0}
-IsClosing behind left _ = ⊥
+abbrev pub IsClosing : List ℕ → List ℕ → List ℕ → List Outcome → Type 0
+IsClosing text behind left [] = Unit {0}
+IsClosing text behind left (refused OutOfMemory ∷ []) = Unit {0}
+IsClosing text behind left (refused ReadFault ∷ []) = (held : List ℕ) × (behind ≡ held ++ left) × (whole_turn held ≡ None)
+IsClosing text behind left (refused DiskFault ∷ []) = behind ≡ text
+IsClosing text behind left (refused (NotAVault offset) ∷ []) = behind ≡ text
+IsClosing text behind left _ = ⊥
 
 -- the vault is none where that is told, with the offset at which its journal stands for no state
 abbrev pub IsOfVault : Result State ℕ → List Outcome → Type 0
@@ -137,7 +137,7 @@ IsOfVault found _ = Unit {0}
 pub record IsOfText (text left : List ℕ) (ts : List Turn) (closing : List Outcome) (status : ℕ) : Type 0 where
   pub behind : List ℕ
   pub turns_are : turns text ≡ ts ++ turns behind
-  pub closing_is : IsClosing behind left closing
+  pub closing_is : IsClosing text behind left closing
   pub whole : status ≡ 0 → behind ≡ []
 
 -- the number of the last answer

@@ -56,7 +56,7 @@ returns-in-Failed-clause-serves g c found told standing =
     let sent : last.sent ≡ ReadFault = ⊎_elim (λ same. same) (λ out. absurd out.1) last.is in
     closed found c.args.desk.now.state (g.M.Vault.disk c.args.desk.now.vault) (g.M.Vault.disk c.loop.desk.vault) (g.S.Source.input c.args.source.now) (g.S.Source.input c.loop.source) c.loop.text (g.C.Clock.ticks c.args.clock.now) (g.C.Clock.ticks c.loop.clock) c.loop.desk.state (i.served told standing)
     ReadFault (g.M.Vault.disk c.reply_last-in-Failed.new.desk.vault) c.reply_last-in-Failed.result last (g.S.Source.input c.next.new.source) (c.next.new.self ++ (g.S.Source.input c.next.new.source).left) (subst (λ (a : Answer). IsOfVault found (refused a ∷ [])) (sym sent) tt)
-    (λ tells. let next = c.in-Failed.ensures.next (i.input.tells tells) in (next.0, subst (λ (a : Answer). IsClosing (c.next.new.self ++ (g.S.Source.input c.next.new.source).left) (g.S.Source.input c.next.new.source).left (refused a ∷ [])) (sym sent) (c.next.new.self, refl, next.1)))
+    (λ tells. let next = c.in-Failed.ensures.next (i.input.tells tells) in (next.0, subst (λ (a : Answer). IsClosing (g.S.Source.input c.args.source.now).left (c.next.new.self ++ (g.S.Source.input c.next.new.source).left) (g.S.Source.input c.next.new.source).left (refused a ∷ [])) (sym sent) (c.next.new.self, refl, next.1)))
     (λ z. ⊎_elim (λ n. omega (arith, n, z)) (λ other. ⊎_elim (λ one. omega (arith, one, z)) (λ unsent. omega (arith, unsent.0, z)) other) c.reply_last-in-Failed.ensures.status)
 
 pub returns-in-NoMemory-clause-serves : goal.returns-in-NoMemory-clause-serves
@@ -66,7 +66,7 @@ returns-in-NoMemory-clause-serves g c found told standing =
     let sent : last.sent ≡ OutOfMemory = ⊎_elim (λ same. same) (λ out. out.0) last.is in
     closed found c.args.desk.now.state (g.M.Vault.disk c.args.desk.now.vault) (g.M.Vault.disk c.loop.desk.vault) (g.S.Source.input c.args.source.now) (g.S.Source.input c.loop.source) c.loop.text (g.C.Clock.ticks c.args.clock.now) (g.C.Clock.ticks c.loop.clock) c.loop.desk.state (i.served told standing)
     OutOfMemory (g.M.Vault.disk c.reply_last-in-NoMemory.new.desk.vault) c.reply_last-in-NoMemory.result last (g.S.Source.input c.next.new.source) (c.next.new.self ++ (g.S.Source.input c.next.new.source).left) (subst (λ (a : Answer). IsOfVault found (refused a ∷ [])) (sym sent) tt)
-    (λ tells. (c.in-NoMemory.ensures.whole (i.input.tells tells), subst (λ (a : Answer). IsClosing (c.next.new.self ++ (g.S.Source.input c.next.new.source).left) (g.S.Source.input c.next.new.source).left (refused a ∷ [])) (sym sent) tt))
+    (λ tells. (c.in-NoMemory.ensures.whole (i.input.tells tells), subst (λ (a : Answer). IsClosing (g.S.Source.input c.args.source.now).left (c.next.new.self ++ (g.S.Source.input c.next.new.source).left) (g.S.Source.input c.next.new.source).left (refused a ∷ [])) (sym sent) tt))
     (λ z. ⊎_elim (λ n. omega (arith, n, z)) (λ other. ⊎_elim (λ one. omega (arith, one, z)) (λ unsent. omega (arith, unsent.0, z)) other) c.reply_last-in-NoMemory.ensures.status)
 
 pub loop-preserved : goal.loop-preserved
@@ -95,5 +95,5 @@ returns-clause-serves g c found told standing =
     let sent : last.sent ≡ OutOfMemory = ⊎_elim (λ same. same) (λ out. out.0) last.is in
     closed found c.args.desk.now.state (g.M.Vault.disk c.args.desk.now.vault) (g.M.Vault.disk c.loop.desk.vault) (g.S.Source.input c.args.source.now) (g.S.Source.input c.loop.source) c.loop.text (g.C.Clock.ticks c.args.clock.now) (g.C.Clock.ticks c.loop.clock) c.loop.desk.state (i.served told standing)
     OutOfMemory (g.M.Vault.disk c.reply_last-2.new.desk.vault) c.reply_last-2.result last (g.S.Source.input c.loop.source) (c.loop.text ++ (g.S.Source.input c.loop.source).left) (subst (λ (a : Answer). IsOfVault found (refused a ∷ [])) (sym sent) tt)
-    (λ tells. (refl, subst (λ (a : Answer). IsClosing (c.loop.text ++ (g.S.Source.input c.loop.source).left) (g.S.Source.input c.loop.source).left (refused a ∷ [])) (sym sent) tt))
+    (λ tells. (refl, subst (λ (a : Answer). IsClosing (g.S.Source.input c.args.source.now).left (c.loop.text ++ (g.S.Source.input c.loop.source).left) (g.S.Source.input c.loop.source).left (refused a ∷ [])) (sym sent) tt))
     (λ z. ⊎_elim (λ n. omega (arith, n, z)) (λ other. ⊎_elim (λ one. omega (arith, one, z)) (λ unsent. omega (arith, unsent.0, z)) other) c.reply_last-2.ensures.status)
