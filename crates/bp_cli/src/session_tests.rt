@@ -186,7 +186,7 @@ fn what_was_answered_outlives_a_stop(rt: HostRuntime) -> Result<(), NoMemory> {
         machine.sent(),
         b"0 11\nalpha_1000\n0 10\nbeta_1001\n0 5\nhello".as_slice()
     );
-    for call in 0..machine.calls() + 1 {
+    for call in 0..machine.calls().saturating_add(1) {
         for choice in 0..4 {
             let images = images_after(rt.alloc(), &machine, call, choice)?;
             assert!(rt; images <= 2 && answered_after(&machine, call) <= images);
