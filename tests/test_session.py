@@ -182,8 +182,9 @@ class Endings(DeskTest):
         os.close(given)
         process.stdin.write(b"@5 bpbackup client=b payload=1\nx")
         process.stdin.flush()
-        self.assertEqual(os.read(taken, 100), frame(0, b"b_5\n"))
-        os.close(taken)
+        reply = frame(0, b"b_5\n")
+        with open(taken, "rb") as reader:  # A reply may come in more than one piece.
+            self.assertEqual(reader.read(len(reply)), reply)
         answer = process.communicate(b"@6 bpbackup client=b\n@7 bpbackup client=b\n", timeout=desk.PATIENCE)
         self.assertEqual((process.returncode, answer[1]), (20, b""))
         self.assertEqual([image.time for image in vault.read(self.desk.bytes())], [5, 6])
