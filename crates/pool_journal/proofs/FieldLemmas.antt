@@ -1,22 +1,22 @@
 -- Reading what was spelled, field by field.
-use Rattle.std.proofs.Common.{◌≡◌, ◌≢◌, inl, inr, ℕ, ◌≤◌, ◌<◌, ◌^◌, List, [], ◌∷◌, ◌++◌, length, Some, None, true, refl, ◌∙◌, ap, arith, append_assoc, length-append}
+use Rattle.std.proofs.Common.{◌≡◌, ◌≢◌, inl, inr, ℕ, ◌≤◌, ◌<◌, ◌^◌, List, [], ◌∷◌, ◌++◌, length, Some, None, true, refl, sym, ◌∙◌, ap, suc, arith, append_assoc, length-append}
 use Rattle.std.specs.Prelude.{Option, option_and_then, option_map, nat_le, ◌==◌, if◌then◌else◌}
-use Rattle.std.proofs.lemmas.List.{take_at, drop_at}
+use Rattle.std.proofs.lemmas.List.{take_at, drop_at, append-nil}
 use Rattle.std.proofs.lemmas.Bool.{cases_eq}
 use Rattle.std.proofs.lemmas.Bool.Decides.{nat_tests}
-use Rattle.std.proofs.lemmas.Nat.{from_be_bytes-to_be_bytes_2, from_be_bytes-to_be_bytes_8}
-use Rattle.std.specs.Int.{w16, w64, to_be_bytes}
+use Rattle.std.proofs.lemmas.Nat.{from_be_bytes-to_be_bytes_2, from_be_bytes-to_be_bytes_4, from_be_bytes-to_be_bytes_8}
+use Rattle.std.specs.Int.{w16, w32, w64, to_be_bytes}
 use Rattle.site_types.specs.Names.{is_name}
 use Rattle.site_types.specs.declared.id.BackupId.{BackupId}
 use Rattle.site_types.specs.declared.image.Kind.{Kind}
 use Rattle.site_types.specs.declared.image.Kind.TheVariants.{Full, Differential, Cumulative}
 use Rattle.site_types.specs.declared.image.Base.{Base}
 use Rattle.site_types.specs.declared.image.Base.TheVariants as base
-use Rattle.pool_journal.specs.Fields.{string, kind_code, base_code, Field, short_field, long_field, behind_length, string_field, named, name_field, kind_field, base_coded, base_field, both}
+use Rattle.pool_journal.specs.Fields.{string, strings, kind_code, base_code, Field, short_field, count_field, long_field, text_first, strings_field, behind_length, string_field, named, name_field, kind_field, base_coded, base_field, both}
 use Rattle.pool_journal.specs.declared.entry.WholeImage.{WholeImage}
 use Rattle.pool_journal.specs.declared.entry.Entry.{Entry}
 use Rattle.pool_journal.specs.declared.entry.Entry.TheVariants as entry
-use Rattle.pool_journal.specs.Entries.{Record, spelled_id, spelled_names, spelled_kind_and_base, spelled_lifecycle, spelled_longs, spelled_image, spelled_entry, body_of, id_made, id_field, made_under_field, taken_as_field, version_field, moments_field, image_made, whole_image_field, with_bytes, record_of, IsFormed, IsSpellable}
+use Rattle.pool_journal.specs.Entries.{Record, spelled_id, spelled_names, spelled_kind_and_base, spelled_lifecycle, spelled_longs, spelled_image, spelled_settings, spelled_entry, body_of, id_made, id_field, made_under_field, taken_as_field, version_field, moments_field, image_made, settings_field, whole_image_field, without_bytes, with_bytes, record_of, AllShort, AreLines, IsFormed, IsSpellable}
 
 when_le : {A : Type 0} (a b : ℕ) (x y : A) → a ≤ b → (if nat_le a b then x else y) ≡ x
 when_le a b x y le = grind (arith, nat_tests)
@@ -30,14 +30,16 @@ long-spelled n rest small = when_le 8 (length (to_be_bytes w64 n ++ rest)) _ Non
 when_name : (b : _) (x : List ℕ × List ℕ) → b ≡ true → (if b then Some x else None) ≡ Some x
 when_name b x is = (λ i. if is i then Some x else None)
 
+pub string-spelled : (text rest : List ℕ) → length text < 2 ^ 16 → string_field (string text ++ rest) ≡ Some (text, rest)
+string-spelled text rest small =
+    let behind : List ℕ = text ++ rest in
+    ap (λ (o : Option (ℕ × List ℕ)). option_and_then behind_length o) (short-spelled (length text) behind small)
+    ∙ when_le (length text) (length behind) _ None (omega (arith, length-append text rest)) ∙ (λ i. Some (take_at text rest (length text) refl i, drop_at text rest (length text) refl i))
+
 pub name-spelled : (name rest : List ℕ) → is_name name ≡ true → name_field (string name ++ rest) ≡ Some (name, rest)
 name-spelled name rest is =
     let small : length name < 2 ^ 16 = grind (arith, nat_tests) in
-    let behind : List ℕ = name ++ rest in
-    let text : string_field (string name ++ rest) ≡ Some (name, rest) =
-    ap (λ (o : Option (ℕ × List ℕ)). option_and_then behind_length o) (short-spelled (length name) behind small)
-    ∙ when_le (length name) (length behind) _ None (omega (arith, length-append name rest)) ∙ (λ i. Some (take_at name rest (length name) refl i, drop_at name rest (length name) refl i)) in
-    ap (λ (o : Option (List ℕ × List ℕ)). option_and_then named o) text ∙ when_name (is_name name) (name, rest) is
+    ap (λ (o : Option (List ℕ × List ℕ)). option_and_then named o) (string-spelled name rest small) ∙ when_name (is_name name) (name, rest) is
 
 pub kind-spelled : (kind : Kind) (rest : List ℕ) → kind_field (kind_code kind ∷ rest) ≡ Some (kind, rest)
 kind-spelled Full rest = refl
@@ -85,6 +87,22 @@ image-spelled image rest can formed =
     ∙ ap (λ (o : Option ((List ℕ × ℕ) × List ℕ)). option_and_then (λ s. option_and_then (λ t. Some (image_made image.id (image.policy, image.schedule) (image.kind, image.base) s.0 t.0, t.1)) (moments_field s.1)) o) version
     ∙ ap (λ (o : Option ((ℕ × ℕ) × List ℕ)). option_and_then (λ t. Some (image_made image.id (image.policy, image.schedule) (image.kind, image.base) (image.lifecycle, image.version) t.0, t.1)) o) moments
 
+pub count-spelled : (n : ℕ) (rest : List ℕ) → n < 2 ^ 32 → count_field (to_be_bytes w32 n ++ rest) ≡ Some (n, rest)
+count-spelled n rest small = when_le 4 (length (to_be_bytes w32 n ++ rest)) _ None (omega arith) ∙ ap (λ (k : ℕ). Some (k, rest)) (from_be_bytes-to_be_bytes_4 n small)
+
+pub strings-spelled : (texts : List (List ℕ)) (rest : List ℕ) → AllShort texts → strings_field (length texts) (strings texts ++ rest) ≡ Some (texts, rest)
+strings-spelled [] rest short = refl
+strings-spelled (text ∷ texts) rest short =
+    let more : List ℕ = strings texts ++ rest in
+    ap (λ (l : List ℕ). strings_field (suc (length texts)) l) (append_assoc (string text) (strings texts) rest)
+    ∙ ap (λ (o : Option (List ℕ × List ℕ)). option_and_then (λ p. option_map (text_first p.0) (strings_field (length texts) p.1)) o) (string-spelled text more short.0)
+    ∙ ap (option_map (text_first text)) (strings-spelled texts rest short.1)
+
+pub settings-spelled : (lines : List (List ℕ)) → AreLines lines → settings_field (spelled_settings lines) ≡ Some (lines, [])
+settings-spelled lines are =
+    ap (λ (o : Option (ℕ × List ℕ)). option_and_then (λ p. strings_field p.0 p.1) o) (count-spelled (length lines) (strings lines) are.0)
+    ∙ ap (strings_field (length lines)) (sym (append-nil (strings lines))) ∙ strings-spelled lines [] are.1
+
 when_long : (m n : ℕ) (x y : Option Record) → m ≡ n → (if m == n then x else y) ≡ x
 when_long m n x y is = grind (arith, nat_tests)
 
@@ -93,5 +111,8 @@ pub record_of-body : (r : Record) → IsSpellable r.entry → IsFormed r.entry r
 record_of-body r = at r.entry r.bytes
   where
     at : (e : Entry) (bytes : List ℕ) → IsSpellable e → IsFormed e bytes → record_of (spelled_entry e ++ bytes) ≡ Some (record { entry = e; bytes = bytes })
+    at (entry.Settings lines) bytes can formed =
+        ap (λ (l : List ℕ). record_of (spelled_entry (entry.Settings lines) ++ l)) formed.1 ∙ ap record_of (append-nil (spelled_entry (entry.Settings lines)))
+        ∙ ap (λ (o : Option (List (List ℕ) × List ℕ)). option_and_then without_bytes o) (settings-spelled lines formed.0) ∙ ap (λ (l : List ℕ). Some (record { entry = entry.Settings lines; bytes = l })) (sym formed.1)
     at (entry.WholeImage image) bytes can formed =
         ap (λ (o : Option (WholeImage × List ℕ)). option_and_then with_bytes o) (image-spelled image bytes can formed.1) ∙ when_long image.length (length bytes) _ None formed.0

@@ -1,6 +1,7 @@
 pub mod EntryLemmas
 pub mod FieldLemmas
 pub mod Bytes
+pub mod Lines
 pub mod Reading
 pub mod Append
 pub mod Opening

@@ -1,6 +1,7 @@
 -- What a record's body says last are its bytes: each field takes some from the front.
 use Rattle.std.proofs.Common.{◌≡◌, ℕ, ◌≤◌, Bool, true, false, List, [], ◌∷◌, ◌++◌, length, take, drop, Some, None, refl, sym, ◌∙◌, ap, arith, append_assoc, length-append, take-append-drop}
 use Rattle.std.specs.Prelude.{Option, option_and_then, option_map, nat_le, ◌==◌, if◌then◌else◌}
+use Rattle.std.proofs.lemmas.List.{append-nil}
 use Rattle.std.proofs.lemmas.Option.{option_and_then_some, same_Some, none-some}
 use Rattle.site_types.specs.Names.{is_name}
 use Rattle.site_types.specs.declared.id.BackupId.{BackupId}
@@ -8,7 +9,7 @@ use Rattle.site_types.specs.declared.image.Kind.{Kind}
 use Rattle.site_types.specs.declared.image.Base.TheVariants as base
 use Rattle.pool_journal.specs.Fields.{Field, byte_field, short_field, long_field, behind_length, string_field, named, name_field, kind_coded, kind_field, base_coded, base_field, both}
 use Rattle.pool_journal.specs.declared.entry.WholeImage.{WholeImage}
-use Rattle.pool_journal.specs.Entries.{Record, id_made, id_field, made_under_field, taken_as_field, version_field, moments_field, whole_image_field, with_bytes, of_kind, record_of}
+use Rattle.pool_journal.specs.Entries.{Record, id_made, id_field, made_under_field, taken_as_field, version_field, moments_field, settings_field, whole_image_field, without_bytes, with_bytes, of_kind, record_of}
 
 -- some bytes end with these
 pub record Ends (bytes rest : List ℕ) : Type 0 where
@@ -102,12 +103,29 @@ image_takes bytes a rest is =
     (λ s l. step moments_field _ s.1 (a, rest) rest (both_take long_field long_field long_takes long_takes) l
     (λ t m. nothing_before t.1 rest (ap (λ (x : WholeImage × List ℕ). x.1) (same_Some _ _ m)))))))
 
+-- of either kind
+either_of : (b : Bool) (x y : Option Record) (r : Record) (P : Type 0) → (x ≡ Some r → P) → (y ≡ Some r → P) → (if b then x else y) ≡ Some r → P
+either_of true x y r P first second is = first is
+either_of false x y r P first second is = second is
+
+none_behind : (lines : List (List ℕ)) (rest : List ℕ) (r : Record) → without_bytes (lines, rest) ≡ Some r → r.bytes ≡ []
+none_behind lines [] r is = sym (ap (λ (x : Record). x.bytes) (same_Some _ r is))
+none_behind lines (b ∷ rest) r is = absurd (none-some r is)
+
+all_before : (bytes rest : List ℕ) → rest ≡ [] → Ends bytes rest
+all_before bytes rest is = record { front = bytes; is = sym (append-nil bytes) ∙ ap (λ (l : List ℕ). bytes ++ l) (sym is) }
+
+settings_end : (bytes : List ℕ) (r : Record) → option_and_then without_bytes (settings_field bytes) ≡ Some r → Ends bytes r.bytes
+settings_end bytes r is = option_and_then_some without_bytes (settings_field bytes) r is (λ q o i. all_before bytes r.bytes (none_behind q.0 q.1 r i))
+
+image_end : (bytes : List ℕ) (r : Record) → option_and_then with_bytes (whole_image_field bytes) ≡ Some r → Ends bytes r.bytes
+image_end bytes r is = step whole_image_field with_bytes bytes r r.bytes image_takes is (λ q j. nothing_before q.1 r.bytes (ap (λ (x : Record). x.bytes) (passed_one (q.0.length == length q.1) _ r j)))
+
 -- a record's bytes end its body
 pub bytes_end : (body : List ℕ) (r : Record) → record_of body ≡ Some r → Ends body r.bytes
 bytes_end body r is =
     step byte_field of_kind body r r.bytes byte_takes is
-    (λ p i. step whole_image_field with_bytes p.1 r r.bytes image_takes (passed (p.0 == 7) _ r i)
-    (λ q j. nothing_before q.1 r.bytes (ap (λ (x : Record). x.bytes) (passed_one (q.0.length == length q.1) _ r j))))
+    (λ p i. either_of (p.0 == 1) _ _ r (Ends p.1 r.bytes) (settings_end p.1 r) (λ other. image_end p.1 r (passed (p.0 == 7) _ r other)) i)
 
 -- what stands behind a whole image's fields ends the body
 pub fields_end : (body rest bytes : List ℕ) (kind : ℕ) (image : WholeImage) → byte_field body ≡ Some (kind, rest) → whole_image_field rest ≡ Some (image, bytes) → Ends body bytes

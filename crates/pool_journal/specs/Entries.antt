@@ -1,12 +1,12 @@
 -- Entries, as they are spelled in a record's body, and as they are read from it.
-use Rattle.std.specs.Prelude.{◌≡◌, ◌≢◌, ℕ, ◌+◌, ◌^◌, ◌<◌, ◌==◌, if◌then◌else◌, true, List, ◌∷◌, ◌++◌, length, Option, Some, None, option_map, option_and_then, Result, Ok, Err}
-use Rattle.std.specs.Int.{w16, w64, to_be_bytes}
+use Rattle.std.specs.Prelude.{◌≡◌, ◌≢◌, ℕ, ◌+◌, ◌^◌, ◌<◌, ◌==◌, if◌then◌else◌, true, List, [], ◌∷◌, ◌++◌, length, Option, Some, None, option_map, option_and_then, Result, Ok, Err}
+use Rattle.std.specs.Int.{w16, w32, w64, to_be_bytes}
 use Rattle.site_types.specs.Names.{is_name}
 use Rattle.site_types.specs.declared.id.BackupId.{BackupId}
 use Rattle.site_types.specs.declared.image.Kind.{Kind}
 use Rattle.site_types.specs.declared.image.Base.{Base}
 use Rattle.site_types.specs.declared.image.Base.TheVariants as base
-use Rattle.pool_journal.specs.Fields.{string, kind_code, base_code, Field, byte_field, short_field, long_field, name_field, kind_field, base_field, both}
+use Rattle.pool_journal.specs.Fields.{string, strings, kind_code, base_code, Field, byte_field, short_field, count_field, long_field, strings_field, name_field, kind_field, base_field, both}
 use Rattle.pool_journal.specs.declared.fields.FieldFault.{FieldFault}
 use Rattle.pool_journal.specs.declared.fields.FieldFault.TheVariants.{Broken, NoMemory}
 use Rattle.pool_journal.specs.declared.entry.Entry.{Entry}
@@ -14,7 +14,7 @@ use Rattle.pool_journal.specs.declared.entry.Entry.TheVariants as entry
 use Rattle.pool_journal.specs.declared.entry.WholeImage.{WholeImage}
 use Rattle.pool_journal.specs.declared.entry.Parsed.{Parsed}
 
--- a record: an entry, and for a whole image its bytes
+-- a record: an entry, and for a whole image its bytes; behind settings there are none
 pub record Record : Type 0 where
   pub entry : Entry
   pub bytes : List ℕ
@@ -39,7 +39,12 @@ abbrev pub spelled_image : WholeImage → List ℕ
 spelled_image image =
     spelled_id image.id ++ spelled_names image.policy image.schedule ++ spelled_kind_and_base image.kind image.base ++ spelled_lifecycle image.lifecycle image.version ++ spelled_longs image.completed image.length
 
+-- the lines behind their number
+abbrev pub spelled_settings : List (List ℕ) → List ℕ
+spelled_settings lines = to_be_bytes w32 (length lines) ++ strings lines
+
 abbrev pub spelled_entry : Entry → List ℕ
+spelled_entry (entry.Settings lines) = 1 ∷ spelled_settings lines
 spelled_entry (entry.WholeImage image) = 7 ∷ spelled_image image
 
 -- the body of a record
@@ -83,19 +88,36 @@ whole_image_field bytes =
     option_and_then (λ a. option_and_then (λ b. option_and_then (λ c. option_and_then (λ d. option_and_then (λ e. Some (image_made a.0 b.0 c.0 d.0 e.0, e.1)) (moments_field d.1)) (version_field c.1)) (taken_as_field b.1))
     (made_under_field a.1)) (id_field bytes)
 
+abbrev pub settings_field : Field (List (List ℕ))
+settings_field bytes = option_and_then (λ p. strings_field p.0 p.1) (count_field bytes)
+
+-- nothing stands behind the lines of a settings record
+abbrev pub without_bytes : List (List ℕ) × List ℕ → Option Record
+without_bytes (lines, []) = Some (record { entry = entry.Settings lines; bytes = [] })
+without_bytes (lines, byte ∷ bytes) = None
+
 -- a whole image's bytes stand behind its fields, as many as they say
 abbrev pub with_bytes : WholeImage × List ℕ → Option Record
 with_bytes (image, bytes) = if image.length == length bytes then Some (record { entry = entry.WholeImage image; bytes = bytes }) else None
 
 abbrev pub of_kind : ℕ × List ℕ → Option Record
-of_kind (kind, rest) = if kind == 7 then option_and_then with_bytes (whole_image_field rest) else None
+of_kind (kind, rest) = if kind == 1 then option_and_then without_bytes (settings_field rest) else (if kind == 7 then option_and_then with_bytes (whole_image_field rest) else None)
 
 -- the record that a body spells, where it spells one
 abbrev pub record_of : List ℕ → Option Record
 record_of body = option_and_then of_kind (byte_field body)
 
--- an entry that can be spelled: the number of its bytes is right, and a base is no moment 0, which spells none
+-- lines whose lengths fit into two bytes, and their number into four
+abbrev pub AllShort : List (List ℕ) → Type 0
+AllShort [] = Unit {0}
+AllShort (line ∷ lines) = (length line < 2 ^ 16) × AllShort lines
+
+abbrev pub AreLines : List (List ℕ) → Type 0
+AreLines lines = (length lines < 2 ^ 32) × AllShort lines
+
+-- An entry that can be spelled. Of settings the lines are short, and nothing stands behind them; of a whole image the number of its bytes is right, and a base is no moment 0, which spells none.
 abbrev pub IsFormed : Entry → List ℕ → Type 0
+IsFormed (entry.Settings lines) bytes = AreLines lines × (bytes ≡ [])
 IsFormed (entry.WholeImage image) bytes = (image.length ≡ length bytes) × (image.base ≢ base.Time 0)
 
 -- a record that can be written
@@ -124,4 +146,5 @@ pub record ImageFits (image : WholeImage) : Type 0 where
   pub length : image.length < 2 ^ 64
 
 abbrev pub IsSpellable : Entry → Type 0
+IsSpellable (entry.Settings lines) = Unit {0}
 IsSpellable (entry.WholeImage image) = ImageFits image

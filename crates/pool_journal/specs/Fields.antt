@@ -1,7 +1,8 @@
 -- The fields of a record. Numbers are big-endian, and a string is a length of two bytes and its bytes.
-use Rattle.std.specs.Prelude.{◌≡◌, ℕ, nat_le, ◌==◌, if◌then◌else◌, List, [], ◌∷◌, ◌++◌, length, take, drop, Option, Some, None, option_and_then, Result, Ok, Err}
+use Rattle.std.specs.Prelude.{◌≡◌, ℕ, zero, suc, nat_le, ◌==◌, if◌then◌else◌, List, [], ◌∷◌, ◌++◌, length, take, drop, Option, Some, None, option_map, option_and_then, Result, Ok, Err}
 use Rattle.std.specs.Borrow.{Bor}
-use Rattle.std.specs.Int.{w16, w64, to_be_bytes, from_be_bytes}
+use Rattle.std.specs.List.{flat_map}
+use Rattle.std.specs.Int.{w16, w32, w64, to_be_bytes, from_be_bytes}
 use Rattle.site_types.specs.Names.{is_name}
 use Rattle.site_types.specs.declared.image.Kind.{Kind}
 use Rattle.site_types.specs.declared.image.Kind.TheVariants.{Full, Differential, Cumulative}
@@ -13,6 +14,10 @@ use Rattle.pool_journal.specs.declared.fields.FieldFault.TheVariants.{Broken, No
 -- how each field is spelled
 abbrev pub string : List ℕ → List ℕ
 string text = to_be_bytes w16 (length text) ++ text
+
+-- strings, one behind another
+abbrev pub strings : List (List ℕ) → List ℕ
+strings texts = flat_map string texts
 
 abbrev pub kind_code : Kind → ℕ
 kind_code Full = 0
@@ -33,6 +38,9 @@ byte_field (byte ∷ rest) = Some (byte, rest)
 
 abbrev pub short_field : Field ℕ
 short_field bytes = if nat_le 2 (length bytes) then Some (from_be_bytes w16 (take 2 bytes), drop 2 bytes) else None
+
+abbrev pub count_field : Field ℕ
+count_field bytes = if nat_le 4 (length bytes) then Some (from_be_bytes w32 (take 4 bytes), drop 4 bytes) else None
 
 abbrev pub long_field : Field ℕ
 long_field bytes = if nat_le 8 (length bytes) then Some (from_be_bytes w64 (take 8 bytes), drop 8 bytes) else None
@@ -64,6 +72,14 @@ base_field bytes = option_and_then base_coded (long_field bytes)
 -- one field behind another
 abbrev pub both : {A B : Type 0} → Field A → Field B → Field (A × B)
 both first second bytes = option_and_then (λ p. option_and_then (λ q. Some ((p.0, q.0), q.1)) (second p.1)) (first bytes)
+
+-- so many strings, one behind another
+abbrev pub text_first : List ℕ → List (List ℕ) × List ℕ → List (List ℕ) × List ℕ
+text_first text (texts, rest) = (text ∷ texts, rest)
+
+abbrev pub strings_field : ℕ → Field (List (List ℕ))
+strings_field zero bytes = Some ([], bytes)
+strings_field (suc count) bytes = option_and_then (λ p. option_map (text_first p.0) (strings_field count p.1)) (string_field bytes)
 
 -- a field was read: what stood there, and the bytes behind it
 abbrev pub IsField : {A : Type 0} → Result A FieldFault → Option (A × List ℕ) → List ℕ → Type 0

@@ -1,15 +1,17 @@
 // What a record says.
 ghost use Rattle.std.specs.Prelude.{◌≡◌, IfOk, Ok};
 ghost use Rattle.pool_journal.specs.Fields.{IsField};
-ghost use Rattle.pool_journal.specs.Entries.{id_field, made_under_field, taken_as_field, version_field, moments_field, whole_image_field, IsEntry};
+ghost use Rattle.pool_journal.specs.Entries.{id_field, made_under_field, taken_as_field, version_field, moments_field, settings_field, whole_image_field, IsEntry};
 
 use crate::fields::{FieldFault, Fields};
-use site_types::{BackupId, Base, Kind, Name};
+use site_types::{BackupId, Base, Kind, ListOf, Name, Text};
 use std::alloc::Global;
 
 /// What was recorded, in the order of the kinds' numbers.
 #[derive(Debug, Drop)]
 pub enum Entry {
+    /// The site was changed by requests, each given by its line.
+    Settings { lines: ListOf<Text> },
     /// An image was sealed, and its bytes stand in the record behind these fields.
     WholeImage(WholeImage),
 }
@@ -69,6 +71,13 @@ fn read_completed_and_length(fields: &mut Fields) -> Result<(u64, u64), FieldFau
     Ok((completed, length))
 }
 
+fn read_settings(fields: &mut Fields, alloc: Global) -> Result<ListOf<Text>, FieldFault>
+    ensures { IsField result (settings_field fields.old) fields.new }
+{
+    let count = fields.count()?;
+    fields.strings(alloc, count)
+}
+
 // The fields of a whole image, behind the kind and before its bytes.
 fn read_whole_image(fields: &mut Fields, alloc: Global) -> Result<WholeImage, FieldFault>
     ensures { IsField result (whole_image_field fields.old) fields.new }
@@ -106,6 +115,17 @@ pub fn read_entry(alloc: Global, body: &[u8]) -> Result<Parsed, FieldFault>
 {
     let mut fields = Fields::new(body);
     match fields.byte()? {
+        1 => {
+            let lines = read_settings(&mut fields, alloc)?;
+            if !fields.rest().is_empty() {
+                return Err(FieldFault::Broken);
+            }
+            Ok(Parsed {
+                entry: Entry::Settings { lines },
+                size: body.len(),
+                left: 0,
+            })
+        }
         7 => {
             let image = read_whole_image(&mut fields, alloc)?;
             let rest = fields.rest().len();

@@ -1,9 +1,9 @@
 // Reading the fields of a record.
 ghost use Rattle.std.specs.Prelude.{◌≡◌};
-ghost use Rattle.pool_journal.specs.Fields.{byte_field, short_field, long_field, string_field, name_field, kind_field, base_field, IsField, borrowed};
+ghost use Rattle.pool_journal.specs.Fields.{byte_field, short_field, count_field, long_field, string_field, strings_field, name_field, kind_field, base_field, IsField, borrowed};
 
-use site_types::{Base, Kind, Name, NoMemory};
-use std::alloc::Global;
+use site_types::{Base, Kind, ListOf, Name, NoMemory, Text};
+use std::alloc::{AllocFailed, Global};
 use std::marker::Model;
 
 /// Why a field wasn't read.
@@ -21,6 +21,17 @@ impl From<NoMemory> for FieldFault {
     ghost from_gives = { λ _ e. e ≡ fault.NoMemory };
 
     fn from(_: NoMemory) -> FieldFault {
+        FieldFault::NoMemory
+    }
+}
+
+impl<T: Drop> From<AllocFailed<T>> for FieldFault {
+    ghost use Rattle.std.specs.Prelude.{◌≡◌};
+    ghost use Rattle.pool_journal.specs.declared.fields.FieldFault.TheVariants as fault;
+
+    ghost from_gives = { λ _ e. e ≡ fault.NoMemory };
+
+    fn from(_: AllocFailed<T>) -> FieldFault {
         FieldFault::NoMemory
     }
 }
@@ -72,6 +83,16 @@ impl<'a> Fields<'a> {
         Ok(u16::from_be_bytes([*a, *b]))
     }
 
+    pub fn count(&mut self) -> Result<u32, FieldFault>
+        ensures { IsField result (count_field self.old) self.new }
+    {
+        let [a, b, c, d, rest @ ..] = self.rest else {
+            return Err(FieldFault::Broken);
+        };
+        self.rest = rest;
+        Ok(u32::from_be_bytes([*a, *b, *c, *d]))
+    }
+
     pub fn long(&mut self) -> Result<u64, FieldFault>
         ensures { IsField result (long_field self.old) self.new }
     {
@@ -92,6 +113,25 @@ impl<'a> Fields<'a> {
         let (text, rest) = self.rest.split_at(count);
         self.rest = rest;
         Ok(text)
+    }
+
+    fn text(&mut self, alloc: Global) -> Result<Text, FieldFault>
+        ensures { IsField result (string_field self.old) self.new }
+    {
+        let bytes = self.string()?;
+        Ok(Text::new(alloc, bytes)?)
+    }
+
+    /// So many strings.
+    #[tactic(auto, using(crate::proofs::Lines::read_broken))]
+    pub fn strings(&mut self, alloc: Global, count: u32) -> Result<ListOf<Text>, FieldFault>
+        ensures { IsField result (strings_field count self.old) self.new }
+    {
+        let mut texts = Vec::new(alloc);
+        for _ in 0..count {
+            texts.push(self.text(alloc)?)?;
+        }
+        Ok(ListOf::from_vec(texts))
     }
 
     pub fn name(&mut self, alloc: Global) -> Result<Name, FieldFault>

@@ -72,7 +72,7 @@ impl Journal {
 
 // What stands behind a record's gate, with the closed gate of the next.
 fn staged(alloc: Global, entry: &Entry, bytes: &[u8]) -> Result<Vec<u8>, NoMemory>
-    requires { length (spelled_entry entry.now ++ bytes.now) < 2 ^ 32 }
+    requires { IsWritable (record { entry = entry.now; bytes = bytes.now }) }
     ensures spelled { IfOk result (λ v. v.items ≡ to_be_bytes w32 (length (spelled_entry entry.now ++ bytes.now)) ++ (spelled_entry entry.now ++ bytes.now) ++ 0 ∷ []) }
     ensures size { IfOk result (λ v. vec_len v ≡ 5 + length (spelled_entry entry.now ++ bytes.now)) }
     ensures fits { OnOk result (IsSpellable entry.now) }

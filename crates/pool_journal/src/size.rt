@@ -1,8 +1,10 @@
 // How much an entry takes in its record.
-ghost use Rattle.std.specs.Prelude.{◌≡◌, ◌+◌, length};
+ghost use Rattle.std.specs.Prelude.{◌≡◌, ◌+◌, ◌-◌, ◌^◌, ◌<◌, min, length};
+ghost use Rattle.pool_journal.specs.Fields.{strings};
 ghost use Rattle.pool_journal.specs.Entries.{spelled_entry, spelled_image};
 
 use crate::entry::{Entry, WholeImage};
+use site_types::Text;
 
 // The kind, the numbers of a whole image, and the lengths of its names.
 const WITHOUT_NAMES: u64 = 44;
@@ -17,12 +19,25 @@ fn image_size(image: &WholeImage) -> u64
     WITHOUT_NAMES + names as u64
 }
 
+// The lines with their lengths.
+fn strings_size(texts: &[Text]) -> u64
+    ensures { result ≡ min (length (strings texts.now)) (2 ^ 64 - 1) }
+{
+    let mut size: u64 = 0;
+    for text in texts {
+        let length = text.bytes().len() as u64;
+        size = size.saturating_add(2).saturating_add(length);
+    }
+    size
+}
+
 impl Entry {
     /// The number of bytes that it takes in a record, before the bytes of a whole image.
     pub fn size(&self) -> u64
-        ensures { result ≡ length (spelled_entry self.now) }
+        ensures { length (spelled_entry self.now) < 2 ^ 64 → result ≡ length (spelled_entry self.now) }
     {
         match self {
+            Entry::Settings { lines } => strings_size(lines.as_slice()).saturating_add(5),
             Entry::WholeImage(image) => image_size(image),
         }
     }

@@ -1,20 +1,44 @@
 // Spelling a record.
-ghost use Rattle.std.specs.Prelude.{◌≡◌, ◌++◌, ◌∷◌, [], ◌<◌, ◌^◌, length, OnOk, IfOk};
+ghost use Rattle.std.specs.Prelude.{◌≡◌, ◌++◌, ◌∷◌, [], ◌<◌, ◌^◌, ℕ, List, length, OnOk, IfOk};
 ghost use Rattle.std.specs.Int.{w16, w32, w64, to_be_bytes};
-ghost use Rattle.pool_journal.specs.Fields.{string, kind_code, base_code};
-ghost use Rattle.pool_journal.specs.Entries.{spelled_id, spelled_names, spelled_kind_and_base, spelled_lifecycle, spelled_longs, spelled_image, spelled_entry, IsNamed, ImageFits, IsSpellable};
+ghost use Rattle.pool_journal.specs.Fields.{string, strings, kind_code, base_code};
+ghost use Rattle.pool_journal.specs.Entries.{spelled_settings, spelled_id, spelled_names, spelled_kind_and_base, spelled_lifecycle, spelled_longs, spelled_image, spelled_entry, AllShort, AreLines, IsNamed, ImageFits, IsFormed, IsSpellable};
 
 use crate::entry::{Entry, WholeImage};
-use site_types::{BackupId, Base, Kind, Name, NoMemory};
+use site_types::{BackupId, Base, Kind, Name, NoMemory, Text};
 use std::alloc::Global;
 
-fn push_string(out: &mut Vec<u8>, name: &Name) -> Result<(), NoMemory>
+fn push_string(out: &mut Vec<u8>, bytes: &[u8]) -> Result<(), NoMemory>
+    requires { length bytes.now < 2 ^ 16 }
+    ensures { OnOk result (out.new.items ≡ out.old.items ++ string bytes.now) }
+{
+    out.extend_from_slice(&(bytes.len() as u16).to_be_bytes())?;
+    out.extend_from_slice(bytes)
+}
+
+fn push_name(out: &mut Vec<u8>, name: &Name) -> Result<(), NoMemory>
     ensures spelled { OnOk result (out.new.items ≡ out.old.items ++ string name.now) }
     ensures named { IsNamed name.now }
 {
-    let bytes = name.bytes();
-    out.extend_from_slice(&(bytes.len() as u16).to_be_bytes())?;
-    out.extend_from_slice(bytes)
+    push_string(out, name.bytes())
+}
+
+fn push_strings(out: &mut Vec<u8>, texts: &[Text]) -> Result<(), NoMemory>
+    requires { AllShort texts.now }
+    ensures { OnOk result (out.new.items ≡ out.old.items ++ strings texts.now) }
+{
+    for text in texts {
+        push_string(out, text.bytes())?;
+    }
+    Ok(())
+}
+
+fn push_settings(out: &mut Vec<u8>, lines: &[Text]) -> Result<(), NoMemory>
+    requires { AreLines lines.now }
+    ensures { OnOk result (out.new.items ≡ out.old.items ++ spelled_settings lines.now) }
+{
+    out.extend_from_slice(&(lines.len() as u32).to_be_bytes())?;
+    push_strings(out, lines)
 }
 
 fn push_long(out: &mut Vec<u8>, number: u64) -> Result<(), NoMemory>
@@ -47,7 +71,7 @@ fn push_id(out: &mut Vec<u8>, id: &BackupId) -> Result<(), NoMemory>
     ensures spelled { OnOk result (out.new.items ≡ out.old.items ++ spelled_id id.now) }
     ensures fits { OnOk result (IsNamed id.now.client × (id.now.time < 2 ^ 64)) }
 {
-    push_string(out, &id.client)?;
+    push_name(out, &id.client)?;
     push_long(out, id.time)
 }
 
@@ -55,8 +79,8 @@ fn push_names(out: &mut Vec<u8>, policy: &Name, schedule: &Name) -> Result<(), N
     ensures spelled { OnOk result (out.new.items ≡ out.old.items ++ spelled_names policy.now schedule.now) }
     ensures fits { OnOk result (IsNamed policy.now × IsNamed schedule.now) }
 {
-    push_string(out, policy)?;
-    push_string(out, schedule)
+    push_name(out, policy)?;
+    push_name(out, schedule)
 }
 
 fn push_kind_and_base(out: &mut Vec<u8>, kind: Kind, base: Base) -> Result<(), NoMemory>
@@ -71,7 +95,7 @@ fn push_lifecycle(out: &mut Vec<u8>, lifecycle: &Name, version: u16) -> Result<(
     ensures spelled { OnOk result (out.new.items ≡ out.old.items ++ spelled_lifecycle lifecycle.now version) }
     ensures fits { OnOk result (IsNamed lifecycle.now × (version < 2 ^ 16)) }
 {
-    push_string(out, lifecycle)?;
+    push_name(out, lifecycle)?;
     out.extend_from_slice(&version.to_be_bytes())
 }
 
@@ -95,11 +119,16 @@ fn push_image(out: &mut Vec<u8>, image: &WholeImage) -> Result<(), NoMemory>
 }
 
 pub fn spell_entry(alloc: Global, entry: &Entry) -> Result<Vec<u8>, NoMemory>
+    requires { (bytes : List ℕ) × IsFormed entry.now bytes }
     ensures spelled { IfOk result (λ v. v.items ≡ spelled_entry entry.now) }
     ensures fits { OnOk result (IsSpellable entry.now) }
 {
     let mut out = Vec::new(alloc);
     match entry {
+        Entry::Settings { lines } => {
+            out.extend_from_slice(&[1])?;
+            push_settings(&mut out, lines.as_slice())?;
+        }
         Entry::WholeImage(image) => {
             out.extend_from_slice(&[7])?;
             push_image(&mut out, image)?;

@@ -1,11 +1,12 @@
 -- Replaying records one by one.
 use Rattle.std.proofs.Common.{◌≡◌, ◌<◌, ◌≤◌, ◌+◌, ℕ, zero, suc, max, List, [], ◌∷◌, length, drop, get_or, Bool, true, false, Some, None, Err, refl, sym, ◌∙◌, ap, subst, arith, rules}
-use Rattle.std.specs.Prelude.{Option, if◌then◌else◌, ◌||◌, ◌&&◌, not, is_some, nat_le, codes, Contains}
+use Rattle.std.specs.Prelude.{Option, if◌then◌else◌, ◌||◌, ◌&&◌, not, is_some, nat_eq, nat_le, codes, Contains}
 use Rattle.std.specs.Str.{bytes_eq}
 use Rattle.std.specs.Cmp.Lexicographic.{slice_cmp}
 use Rattle.std.specs.Ordering.{match_ordering, nat_cmp, is_eq, ordering_reverse}
 use Rattle.std.specs.declared.cmp.Ordering.{Ordering}
 use Rattle.std.specs.declared.cmp.Ordering.TheVariants.{Less, Equal, Greater}
+use Rattle.std.proofs.lemmas.Bool.Decides.{nat_tests}
 use Rattle.std.proofs.lemmas.List.{drop_all, length-map}
 use Rattle.std.specs.Cmp.{IsTotalOrder}
 use Rattle.std.specs.Cmp.Rules.{comparing}
@@ -21,11 +22,11 @@ use Rattle.site_types.specs.Limits.{last_moment}
 use Rattle.desk_model.specs.Site.{Client, adhoc, initial_site, client_named, policy_named, version_named, raise_last}
 use Rattle.desk_model.specs.Step.{last_of, sealed}
 use Rattle.desk_model.specs.State.{State, Image, Stored, initial, same_id, is_before, has_image, with_image}
-use Rattle.site_desk.specs.Stands.{is_base_below, image_fits, entry_fits, whole_image, whole_unit, apply, apply_entry, applied, applied_from}
+use Rattle.site_desk.specs.Stands.{is_base_below, image_fits, settled, entry_fits, whole_image, whole_unit, apply, apply_entry, applied, applied_from}
 use Rattle.site_desk.specs.Desk.{built, TimesBelow}
 use Rattle.site_desk.specs.Clients.{AllAfter, ByName}
 use Rattle.site_desk.specs.Catalogue.{extent_of, Adds}
-use Rattle.site_desk.specs.Opening.{image_in, id_in, Remembers, Makes}
+use Rattle.site_desk.specs.Opening.{id_in, clients_with, AddsIfAny, Remembers, Makes}
 use Rattle.site_desk.specs.declared.catalogue.Extent.{Extent}
 use Rattle.site_desk.proofs.CatalogueLemmas.{same_is, catalogued-with, catalogued-none}
 
@@ -221,6 +222,45 @@ module _ (records : List Found) (clients : List Client) (extents : List (BackupI
         };
       })
 
+-- no line is a request of the site: settings that fit change nothing
+unchanged : (s : State) (lines : List (List ℕ)) → is_some (settled s lines) ≡ true → settled s lines ≡ Some s
+unchanged s [] fits = refl
+unchanged s (line ∷ lines) fits = absurd (cc fits)
+
+not_settled : (o : Option State) → is_some o ≡ false → o ≡ None
+not_settled None is = refl
+not_settled (Some s) is = absurd (cc is)
+
+pub no_line : (s : State) (lines : List (List ℕ)) → nat_eq (length lines) 0 ≡ is_some (settled s lines)
+no_line s [] = refl
+no_line s (line ∷ lines) = grind (arith, nat_tests)
+
+applied_settings : (s : State) (f : Found) (p : Placed) (lines : List (List ℕ)) → placed_of f ≡ p → p.entry ≡ entry.Settings lines → apply s f.is ≡ settled s lines
+applied_settings s f p lines is entry_is = ap (λ (e : Entry). apply_entry s e f.is.bytes) (ap (λ (q : Placed). q.entry) is ∙ entry_is)
+
+module _ (records : List Found) (clients : List Client) (extents : List (BackupId × Extent)) (i : ℕ) (p : Placed) (lines : List (List ℕ)) (far : SoFar records clients extents i) (lt : i < length (placed records)) (is : p ≡ get_or (placed records) i p) (entry_is : p.entry ≡ entry.Settings lines) where
+  abbrev here_before : State
+  here_before = built clients far.images far.stored
+
+  pub unsettled : is_some (settled here_before lines) ≡ false → applied initial records ≡ Err p.at
+  unsettled differs =
+      let here = record_at records i p lt is in
+      far.so_far ∙ ap (λ (l : List Found). applied_from 0 (Some here_before) l) here.1
+      ∙ ap (λ (o : Option State). applied_from here.0.at o (drop (i + 1) records)) (applied_settings here_before here.0 p lines here.2 entry_is ∙ not_settled (settled here_before lines) differs)
+      ∙ ap (λ (q : Placed). Err q.at) here.2
+
+  pub settled_so : (clients' : List Client) (extents' : List (BackupId × Extent)) → clients' ≡ clients → extents' ≡ extents → is_some (settled here_before lines) ≡ true → SoFar records clients' extents' (i + 1)
+  settled_so clients' extents' clients_are extents_are fits =
+      let here = record_at records i p lt is in
+      subst (λ (es : List (BackupId × Extent)). SoFar records clients' es (i + 1)) (sym extents_are) (subst (λ (cs : List Client). SoFar records cs extents (i + 1)) (sym clients_are) (record {
+        images = far.images;
+        stored = far.stored;
+        so_far = far.so_far ∙ ap (λ (l : List Found). applied_from 0 (Some here_before) l) here.1
+            ∙ ap (λ (o : Option State). applied_from here.0.at o (drop (i + 1) records)) (applied_settings here_before here.0 p lines here.2 entry_is ∙ unchanged here_before lines fits)
+            ∙ applied_any here.0.at 0 here_before (drop (i + 1) records);
+        remembers = far.remembers;
+      }))
+
 -- before the first record
 pub nothing_yet : (records : List Found) (clients : List Client) (extents : List (BackupId × Extent)) → clients ≡ [] → ((id : BackupId) → extent_of id extents ≡ None) → SoFar records clients extents 0
 nothing_yet records clients extents none empty = subst (λ (cs : List Client). SoFar records cs extents 0) (sym none) (record {
@@ -235,13 +275,15 @@ pub unfit_at : (records : List Found) (clients : List Client) (extents : List (B
 unfit_at records clients extents i p far lt is = at p.entry refl
   where
     at : (e : Entry) → p.entry ≡ e → entry_fits (built clients far.images far.stored) e ≡ false → applied initial records ≡ Err p.at
+    at (entry.Settings lines) entry_is differs = unsettled records clients extents i p lines far lt is entry_is differs
     at (entry.WholeImage w) entry_is differs = unfit records clients extents i p w far lt is entry_is differs
 
 pub fit_at : (records : List Found) (clients clients' : List Client) (extents extents' : List (BackupId × Extent)) (i : ℕ) (p : Placed) (far : SoFar records clients extents i) → i < length (placed records) → p ≡ get_or (placed records) i p → entry_fits (built clients far.images far.stored) p.entry ≡ true
-    → clients' ≡ raise_last (id_in p.entry).client (id_in p.entry).time clients → Adds (id_in p.entry) (record { from = p.from; length = p.size }) extents extents' → SoFar records clients' extents' (i + 1)
+    → clients' ≡ clients_with (id_in p.entry) clients → AddsIfAny (id_in p.entry) (record { from = p.from; length = p.size }) extents extents' → SoFar records clients' extents' (i + 1)
 fit_at records clients clients' extents extents' i p far lt is = at p.entry refl
   where
-    at : (e : Entry) → p.entry ≡ e → entry_fits (built clients far.images far.stored) e ≡ true → clients' ≡ raise_last (id_in e).client (id_in e).time clients → Adds (id_in e) (record { from = p.from; length = p.size }) extents extents' → SoFar records clients' extents' (i + 1)
+    at : (e : Entry) → p.entry ≡ e → entry_fits (built clients far.images far.stored) e ≡ true → clients' ≡ clients_with (id_in e) clients → AddsIfAny (id_in e) (record { from = p.from; length = p.size }) extents extents' → SoFar records clients' extents' (i + 1)
+    at (entry.Settings lines) entry_is fits clients_are same = settled_so records clients extents i p lines far lt is entry_is clients' extents' clients_are same fits
     at (entry.WholeImage w) entry_is fits clients_are adds = fit records clients extents i p w far lt is entry_is clients' extents' clients_are adds fits
 
 -- all records were replayed
@@ -252,9 +294,6 @@ all_replayed records clients extents i past far = record {
   made = far.so_far ∙ ap (λ (l : List Found). applied_from 0 (Some (built clients far.images far.stored)) l) (drop_all i records (omega (arith, length-map records placed_of)));
   remembers = far.remembers;
 }
-
-pub entry_fits-image : (s : State) (e : Entry) → image_fits s (image_in e) ≡ entry_fits s e
-entry_fits-image s (entry.WholeImage w) = refl
 
 all_of : (n p v k a t u b c : Bool) → (p ≡ true → a ≡ true) → (n && (p && v) && (t && u && b && c)) ≡ (n && p && v && (k || a) && t && u && b && c)
 all_of false p v k a t u b c adhoc_is = refl

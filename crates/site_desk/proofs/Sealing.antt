@@ -22,7 +22,8 @@ use Rattle.desk_model.specs.Step.{step, last_of, sealed, sealed_entry, new_time,
 use Rattle.site_desk.specs.Stands.{apply, apply_entry, opened, stood, Standing, Between}
 use Rattle.site_desk.specs.declared.record.Recorded.{Recorded}
 use Rattle.site_desk.specs.declared.record.Recorded.TheVariants.{Written}
-use Rattle.site_desk.specs.Catalogue.{Adds, Removes, IsKeptAt, Catalogued}
+use Rattle.site_desk.specs.Catalogue.{Adds, IsKeptAt, Catalogued}
+use Rattle.site_desk.specs.Opening.{id_in, RemovesIfAny}
 use Rattle.site_desk.specs.Clients.{ByName}
 use Rattle.site_desk.specs.declared.catalogue.Extent.{Extent}
 use Rattle.site_desk.specs.Desk.{built, desk_state, images_in, stored_in, TimesBelow, KeptState, KeptMore, Kept, Commits, backup_entry}
@@ -157,13 +158,13 @@ module _ (client payload : List ℕ) (moment last sat time : ℕ) (e : Entry) (r
   either_left = subst (λ (s : State). Between s (step (desk_state old clients) (Backup client) payload moment).1 old new) (sym start_is) (subst (λ (t : State). Between start t old new) (sym stepped) committed_now.between)
 
   -- an image that was catalogued for a record that wasn't written is taken out again
-  pub unsealed : (mid back : List (BackupId × Extent)) (extent : Extent) (id id' : BackupId) → id ≡ record { client = client; time = time } → id' ≡ record { client = client; time = time } → Adds id extent extents mid → Removes id' mid back → Kept old end clients back
-  unsealed mid back extent id id' id_is id_is' adds removes = record {
+  pub unsealed : (mid back : List (BackupId × Extent)) (extent : Extent) (id : BackupId) → id ≡ record { client = client; time = time } → Adds id extent extents mid → RemovesIfAny (id_in e) mid back → Kept old end clients back
+  unsealed mid back extent id id_is adds removes = record {
     images = kept.images;
     stored = kept.stored;
     kept = kept.kept;
     catalogued = catalogued-back kept.kept.records extents mid back kept.images (record { client = client; time = time }) extent (fresh clients kept.images kept.stored client payload moment time time_is within early kept.below) kept.catalogued
-        (subst (λ (i : BackupId). Adds i extent extents mid) id_is adds) (subst (λ (i : BackupId). Removes i mid back) id_is' removes);
+        (subst (λ (i : BackupId). Adds i extent extents mid) id_is adds) (subst (λ (x : Entry). RemovesIfAny (id_in x) mid back) e_is removes);
     by_name = kept.by_name;
     below = kept.below;
   }

@@ -1,5 +1,5 @@
 -- What an image of a disk stands for.
-use Rattle.std.specs.Prelude.{◌≡◌, ◌⊎◌, ℕ, Bool, true, ◌&&◌, ◌||◌, not, nat_le, nat_lt, is_some, if◌then◌else◌, List, [], ◌∷◌, codes, Option, Some, None, Result, Ok, Err}
+use Rattle.std.specs.Prelude.{◌≡◌, ◌⊎◌, ℕ, Bool, true, ◌&&◌, ◌||◌, not, nat_le, nat_lt, is_some, if◌then◌else◌, List, [], ◌∷◌, codes, Option, Some, None, option_and_then, Result, Ok, Err}
 use Rattle.std.specs.Result.{result_ok}
 use Rattle.std.specs.Str.{bytes_eq}
 use Rattle.site_types.specs.declared.image.Base.{Base}
@@ -33,11 +33,22 @@ whole_image s w bytes = record { entry = sealed_entry s.site w.id w.policy w.sch
 abbrev pub whole_unit : State → WholeImage → List ℕ
 whole_unit s w = unit_of (operations_of (version_named w.lifecycle w.version s.site.lifecycles))
 
+-- the state after the request of the site that a line of a settings record spells, where it is done; there is no such request yet
+abbrev pub settled_by : State → List ℕ → Option State
+settled_by s line = None
+
+-- and after those of all its lines
+abbrev pub settled : State → List (List ℕ) → Option State
+settled s [] = Some s
+settled s (line ∷ lines) = option_and_then (λ t. settled t lines) (settled_by s line)
+
 abbrev pub entry_fits : State → Entry → Bool
+entry_fits s (entry.Settings lines) = is_some (settled s lines)
 entry_fits s (entry.WholeImage w) = image_fits s w
 
 -- the state after one record, where it fits
 abbrev pub apply_entry : State → Entry → List ℕ → Option State
+apply_entry s (entry.Settings lines) bytes = settled s lines
 apply_entry s (entry.WholeImage w) bytes = if image_fits s w then Some (sealed (whole_image s w bytes) (whole_unit s w) s) else None
 
 abbrev pub apply : State → Record → Option State

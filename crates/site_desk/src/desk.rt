@@ -10,7 +10,7 @@ use crate::backup::{Prepared, prepare, too_late};
 use crate::catalogue::{Catalogue, next_extent};
 use crate::client::{Client, last_of, make_room, place_of, raise_at};
 use crate::record::{Recorded, write_record};
-use crate::replay::{id_in, replay};
+use crate::replay::{replay, take_out};
 use crate::restore::wanted;
 use pool_journal::{Journal, JournalFault};
 use site_types::{Answer, BackupId, Name, Request};
@@ -142,7 +142,7 @@ impl<V: Vault> Desk<V> {
                 Answer::Done { body }
             }
             Recorded::NoMemory => {
-                self.catalogue.remove(id_in(&entry));
+                take_out(&mut self.catalogue, &entry);
                 Answer::OutOfMemory
             }
             Recorded::Fault => {

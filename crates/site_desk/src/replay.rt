@@ -1,35 +1,29 @@
 // Replaying the entries of a journal.
-ghost use Rattle.std.specs.Prelude.{◌≡◌, ◌&&◌, not, is_some, nat_le, List, IfOk, OnOk};
+ghost use Rattle.std.specs.Prelude.{◌≡◌, ◌&&◌, not, is_some, nat_le, List, Some, None, MatchOption, IfOk, OnOk};
 ghost use Rattle.pool_journal.specs.Records.{Found, placed};
 ghost use Rattle.site_types.specs.Limits.{last_moment};
 ghost use Rattle.desk_model.specs.Site.{Client as ClientValue, initial_site, policy_named, raise_last, version_named};
-ghost use Rattle.desk_model.specs.State.{Image, Stored, has_image};
-ghost use Rattle.site_desk.specs.Stands.{is_base_below, image_fits, entry_fits};
+ghost use Rattle.desk_model.specs.State.{State, Image, Stored, has_image};
+ghost use Rattle.site_desk.specs.Stands.{is_base_below, image_fits, settled, entry_fits};
 ghost use Rattle.site_desk.specs.Desk.{built};
-ghost use Rattle.site_desk.specs.Catalogue.{Adds};
-ghost use Rattle.site_desk.specs.Opening.{image_in, id_in, Remembers, IsReplayed};
+ghost use Rattle.site_desk.specs.Opening.{id_in, clients_with, AddsIfAny, RemovesIfAny, Remembers, IsReplayed};
 
 use crate::catalogue::{Catalogue, Extent};
 use crate::client::{Client, make_room, place_of, raise_at};
 use pool_journal::{Entry, Placed, WholeImage};
-use site_types::{BackupId, Base, NoMemory};
+use site_types::{BackupId, Base, NoMemory, Text};
 use std::alloc::Global;
 
 const LAST_MOMENT: u64 = 250_000_000_000;
 
-fn image_in(entry: &Entry) -> &WholeImage
-    ensures { result.now ≡ image_in entry.now }
+// The id of the image that an entry seals.
+fn id_in(entry: &Entry) -> Option<&BackupId>
+    ensures { MatchOption result (id_in entry.now ≡ None) (λ id. id_in entry.now ≡ Some id.now) }
 {
     match entry {
-        Entry::WholeImage(image) => image,
+        Entry::Settings { .. } => None,
+        Entry::WholeImage(image) => Some(&image.id),
     }
-}
-
-/// The id of an entry's image.
-pub fn id_in(entry: &Entry) -> &BackupId
-    ensures { result.now ≡ id_in entry.now }
-{
-    &image_in(entry).id
 }
 
 fn is_built_in(image: &WholeImage) -> bool
@@ -70,10 +64,21 @@ fn image_fits(clients: &[Client], catalogue: &Catalogue, image: &WholeImage) -> 
     is_new(catalogue, &image.id) & is_built_in(image) & is_in_time(image)
 }
 
+// No request of the site is there yet, so no line spells one.
+#[tactic(auto, using(crate::proofs::ReplayLemmas::no_line))]
+fn settings_fit(lines: &[Text]) -> bool
+    ensures { (s : State) → result ≡ is_some (settled s lines.now) }
+{
+    lines.is_empty()
+}
+
 fn fits(clients: &[Client], catalogue: &Catalogue, entry: &Entry) -> bool
     ensures { (records : List Found) (images : List Image) (stored : List Stored) → Remembers records clients.now catalogue.now images → result ≡ entry_fits (built clients.now images stored) entry.now }
 {
-    image_fits(clients, catalogue, image_in(entry))
+    match entry {
+        Entry::Settings { lines } => settings_fit(lines.as_slice()),
+        Entry::WholeImage(image) => image_fits(clients, catalogue, image),
+    }
 }
 
 /// What entries make.
@@ -85,7 +90,7 @@ pub struct Replayed {
     pub bad: Option<u64>,
 }
 
-// Raises the last id time of the entry's client.
+// Raises the last id time of the image's client.
 fn raise_client(alloc: Global, clients: &mut Vec<Client>, id: &BackupId) -> Result<(), NoMemory>
     ensures { OnOk result (clients.new.items ≡ raise_last id.now.client id.now.time clients.old.items) }
 {
@@ -96,19 +101,34 @@ fn raise_client(alloc: Global, clients: &mut Vec<Client>, id: &BackupId) -> Resu
     Ok(())
 }
 
-// Catalogues the entry's image.
-fn catalogue_entry(
+// Remembers an entry that fits.
+fn take_in(
     alloc: Global,
+    clients: &mut Vec<Client>,
     catalogue: &mut Catalogue,
     placed: &Placed,
 ) -> Result<(), NoMemory>
-    ensures { OnOk result (Adds (id_in placed.now.entry) (record { from = placed.now.from; length = placed.now.size }) catalogue.old catalogue.new) }
+    ensures clients { OnOk result (clients.new.items ≡ clients_with (id_in placed.now.entry) clients.old.items) }
+    ensures catalogue { OnOk result (AddsIfAny (id_in placed.now.entry) (record { from = placed.now.from; length = placed.now.size }) catalogue.old catalogue.new) }
 {
+    let Some(id) = id_in(&placed.entry) else {
+        return Ok(());
+    };
+    raise_client(alloc, clients, id)?;
     let extent = Extent {
         from: placed.from,
         length: placed.size,
     };
-    catalogue.add(id_in(&placed.entry).copy(alloc)?, extent)
+    catalogue.add(id.copy(alloc)?, extent)
+}
+
+/// Takes the image that an entry seals out of the catalogue.
+pub fn take_out(catalogue: &mut Catalogue, entry: &Entry)
+    ensures { RemovesIfAny (id_in entry.now) catalogue.old catalogue.new }
+{
+    if let Some(id) = id_in(entry) {
+        catalogue.remove(id);
+    }
 }
 
 /// Replays entries from the state of a new vault on.
@@ -125,8 +145,7 @@ pub fn replay(alloc: Global, entries: &[Placed]) -> Result<Replayed, NoMemory>
                 bad: Some(placed.at),
             });
         }
-        raise_client(alloc, &mut clients, id_in(&placed.entry))?;
-        catalogue_entry(alloc, &mut catalogue, placed)?;
+        take_in(alloc, &mut clients, &mut catalogue, placed)?;
     }
     Ok(Replayed {
         clients,

@@ -1,10 +1,8 @@
-use Rattle.std.proofs.Common.{◌∙◌, ap}
-use Rattle.pool_journal.specs.declared.entry.WholeImage.{WholeImage}
-use Rattle.site_desk.specs.Stands.{image_fits}
+use Rattle.std.proofs.Common.{◌∙◌, ap, sym}
+use Rattle.pool_journal.specs.declared.entry.Entry.{Entry}
+use Rattle.site_desk.specs.Stands.{entry_fits}
 use Rattle.site_desk.specs.Desk.{built}
-use Rattle.site_desk.proofs.ReplayLemmas.{entry_fits-image}
 use Rattle.site_desk.proofs.replay.fits.Goals as goal
 
-pub returns : goal.returns
-returns c records images stored remembers =
-    c.image_fits.ensures records images stored remembers ∙ ap (λ (w : WholeImage). image_fits (built c.args.clients.now images stored) w) c.image_in.ensures ∙ entry_fits-image (built c.args.clients.now images stored) c.args.entry.now
+pub returns-in-WholeImage : goal.returns-in-WholeImage
+returns-in-WholeImage c records images stored remembers = c.image_fits.ensures records images stored remembers ∙ ap (λ (e : Entry). entry_fits (built c.args.clients.now images stored) e) (sym c.in-WholeImage.is)

@@ -1,7 +1,6 @@
 use Rattle.std.proofs.Common.{◌≡◌, ◌∙◌, ◌<◌, ◌≤◌, arith, ap, sym, subst, List, length, get_or, true, false}
 use Rattle.pool_journal.specs.declared.records.Placed.{Placed}
-use Rattle.site_types.specs.declared.id.BackupId.{BackupId}
-use Rattle.desk_model.specs.Site.{Client, raise_last}
+use Rattle.desk_model.specs.Site.{Client}
 use Rattle.site_desk.specs.Stands.{entry_fits}
 use Rattle.site_desk.specs.Desk.{built}
 use Rattle.site_desk.specs.Opening.{Remembers}
@@ -26,8 +25,8 @@ loop-placed-preserved c records placed_are =
     let known = subst (λ (cs : List Client). Remembers records cs c.loop-placed.catalogue far.images) (sym c.deref.ensures.value) far.remembers in
     let fits : entry_fits (built c.loop-placed.clients.items far.images far.stored) c.placed-item.result.entry ≡ true =
     ap (λ (cs : List Client). entry_fits (built cs far.images far.stored) c.placed-item.result.entry) (sym c.deref.ensures.value) ∙ sym (c.fits.ensures records far.images far.stored known) ∙ c.if-not-fits.false in
-    fit_at records c.loop-placed.clients.items c.raise_client.new.clients.items c.loop-placed.catalogue c.catalogue_entry.new.catalogue c.loop-placed.placed-index c.placed-item.result far (subst (λ (l : List Placed). c.loop-placed.placed-index < length l) (sym placed_are) (omega arith))
-    (c.placed-item.is ∙ ap (λ (l : List Placed). get_or l c.loop-placed.placed-index c.placed-item.result) (sym placed_are)) fits (c.in_ok-raise_client.ensures ∙ ap (λ (id : BackupId). raise_last id.client id.time c.loop-placed.clients.items) c.id_in.ensures) c.in_ok-catalogue_entry.ensures
+    fit_at records c.loop-placed.clients.items c.take_in.new.clients.items c.loop-placed.catalogue c.take_in.new.catalogue c.loop-placed.placed-index c.placed-item.result far (subst (λ (l : List Placed). c.loop-placed.placed-index < length l) (sym placed_are) (omega arith))
+    (c.placed-item.is ∙ ap (λ (l : List Placed). get_or l c.loop-placed.placed-index c.placed-item.result) (sym placed_are)) fits c.in_ok-take_in.ensures.clients c.in_ok-take_in.ensures.catalogue
 
 pub returns : goal.returns
 returns c records placed_are = all_replayed records c.loop-placed.clients.items c.loop-placed.catalogue c.loop-placed.placed-index (subst (λ (l : List Placed). length l ≤ c.loop-placed.placed-index) (sym placed_are) (omega arith)) (c.loop-placed.invariant records placed_are)

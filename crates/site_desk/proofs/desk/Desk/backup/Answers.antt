@@ -3,7 +3,6 @@ use Rattle.pool_journal.specs.Entries.{spelled_entry}
 use Rattle.desk_model.specs.Site.{Client, client_named}
 use Rattle.desk_model.specs.Step.{last_of}
 use Rattle.site_desk.specs.Desk.{DeskValue, Kept}
-use Rattle.site_desk.specs.Opening.{id_in}
 use Rattle.site_desk.proofs.Sealing.{BetweenSteps, sealed_now, unsealed, either_left}
 use Rattle.site_desk.proofs.desk.Desk.backup.Goals as goal
 
@@ -62,8 +61,8 @@ invariant_of-self-in-NoMemory g c stopped told' =
     let same = c.write_record.ensures.memory c.in-NoMemory.is in
     let kept = c.self.invariant stopped told in
     let last = c.last_of-last.ensures ∙ (λ i. last_of (client_named (c.bytes.ensures.bytes i) (c.deref.ensures.value i))) in
-    subst (λ (v : g.row.V.Denot). Kept (g.V.Vault.disk v) c.write_record.new.journal c.make_room.new.clients.items c.remove.new.self) (sym same.1)
-    (subst (λ (end : ℕ). Kept (g.V.Vault.disk c.self.inside.vault) end c.make_room.new.clients.items c.remove.new.self) (sym same.0)
-    (subst (λ (cs : List Client). Kept (g.V.Vault.disk c.self.inside.vault) c.self.inside.journal cs c.remove.new.self) (sym c.in-Ok-make_room.ensures.same)
+    subst (λ (v : g.row.V.Denot). Kept (g.V.Vault.disk v) c.write_record.new.journal c.make_room.new.clients.items c.take_out.new.catalogue) (sym same.1)
+    (subst (λ (end : ℕ). Kept (g.V.Vault.disk c.self.inside.vault) end c.make_room.new.clients.items c.take_out.new.catalogue) (sym same.0)
+    (subst (λ (cs : List Client). Kept (g.V.Vault.disk c.self.inside.vault) c.self.inside.journal cs c.take_out.new.catalogue) (sym c.in-Ok-make_room.ensures.same)
     (unsealed c.args.client.now c.args.payload.now c.args.moment _ _ _ _ _ _ _ _ _ _ _ kept last c.saturating_add.ensures c.max-time.ensures c.if-time-gt-LAST_MOMENT.false c.requires.moment c.in-Ok.ensures.entry
-    (λ s t held s_is t_is fits. c.write_record.ensures.commits s t told held s_is t_is fits) c.add.new.self c.remove.new.self c.next_extent-extent.result c.in-Ok.prepared.id c.id_in.result.now c.in-Ok.ensures.id (c.id_in.ensures ∙ ap id_in c.in-Ok.ensures.entry) c.in-Ok-add.ensures.added c.remove.ensures)))
+    (λ s t held s_is t_is fits. c.write_record.ensures.commits s t told held s_is t_is fits) c.add.new.self c.take_out.new.catalogue c.next_extent-extent.result c.in-Ok.prepared.id c.in-Ok.ensures.id c.in-Ok-add.ensures.added c.take_out.ensures)))

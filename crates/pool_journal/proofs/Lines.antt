@@ -1,0 +1,71 @@
+-- Strings, one behind another.
+use Rattle.std.proofs.Common.{◌≡◌, ℕ, ◌+◌, ◌-◌, ◌<◌, ◌≤◌, ◌^◌, min, zero, suc, List, [], ◌∷◌, ◌++◌, length, get_or, take, refl, sym, ap, subst, ◌∙◌, append_assoc, length-append, arith}
+use Rattle.std.specs.Prelude.{Option, Some, None, Err, option_map, option_and_then}
+use Rattle.std.proofs.lemmas.List.{flat_map_more, take_more, take_all, append-nil}
+use Rattle.pool_journal.specs.Fields.{string, strings, string_field, strings_field, text_first, IsField}
+use Rattle.pool_journal.specs.Entries.{AllShort}
+use Rattle.pool_journal.specs.declared.fields.FieldFault.{FieldFault}
+use Rattle.pool_journal.specs.declared.fields.FieldFault.TheVariants.{Broken, NoMemory}
+
+pub short_at : (texts : List (List ℕ)) (k : ℕ) (x : List ℕ) → AllShort texts → k < length texts → x ≡ get_or texts k x → length x < 2 ^ 16
+short_at [] k x all lt is = absurd (omega arith)
+short_at (text ∷ texts) zero x all lt is = subst (λ (y : List ℕ). length y < 2 ^ 16) (sym is) all.0
+short_at (text ∷ texts) (suc k) x all lt is = short_at texts k x all.1 (omega arith) is
+
+-- one more is pushed
+pub one_more : (texts : List (List ℕ)) (k : ℕ) (x : List ℕ) (front : List ℕ) → k < length texts → x ≡ get_or texts k x → (front ++ strings (take k texts)) ++ string x ≡ front ++ strings (take (k + 1) texts)
+one_more texts k x front lt is =
+    flat_map_more string front (take k texts) x ∙ ap (λ (ts : List (List ℕ)). front ++ strings ts) (ap (λ (y : List ℕ). take k texts ++ y ∷ []) is ∙ sym (take_more texts k x lt))
+
+pub pushed_more : (out new front : List ℕ) (texts : List (List ℕ)) (k : ℕ) (x : List ℕ) → k < length texts → x ≡ get_or texts k x → out ≡ front ++ strings (take k texts) → new ≡ out ++ string x → new ≡ front ++ strings (take (k + 1) texts)
+pushed_more out new front texts k x lt is so_far adds = adds ∙ ap (λ (w : List ℕ). w ++ string x) so_far ∙ one_more texts k x front lt is
+
+pub pushed_all : (out front : List ℕ) (texts : List (List ℕ)) (k : ℕ) → length texts ≤ k → out ≡ front ++ strings (take k texts) → out ≡ front ++ strings texts
+pushed_all out front texts k le so_far = so_far ∙ ap (λ (ts : List (List ℕ)). front ++ strings ts) (take_all k texts le)
+
+-- and counted
+pub counted_more : (size two all : ℕ) (texts : List (List ℕ)) (k : ℕ) (x : List ℕ) → k < length texts → x ≡ get_or texts k x → size ≡ min (length (strings (take k texts))) (2 ^ 64 - 1) → two ≡ min (size + 2) (2 ^ 64 - 1) → all ≡ min (two + length x) (2 ^ 64 - 1)
+    → all ≡ min (length (strings (take (k + 1) texts))) (2 ^ 64 - 1)
+counted_more size two all texts k x lt is so_far first then =
+    let longer : length (strings (take k texts)) + length (string x) ≡ length (strings (take (k + 1) texts)) = sym (length-append (strings (take k texts)) (string x)) ∙ ap length (one_more texts k x [] lt is) in
+    omega (arith, so_far, first, then, longer)
+
+pub counted_all : (size : ℕ) (texts : List (List ℕ)) (k : ℕ) → length texts ≤ k → size ≡ min (length (strings (take k texts))) (2 ^ 64 - 1) → size ≡ min (length (strings texts)) (2 ^ 64 - 1)
+counted_all size texts k le so_far = so_far ∙ ap (λ (ts : List (List ℕ)). min (length (strings ts)) (2 ^ 64 - 1)) (take_all k texts le)
+
+-- these are read, and what is read behind them
+abbrev pub behind_texts : List (List ℕ) → Option (List (List ℕ) × List ℕ) → Option (List (List ℕ) × List ℕ)
+behind_texts texts None = None
+behind_texts texts (Some (more, rest)) = Some (texts ++ more, rest)
+
+one_behind : (texts : List (List ℕ)) (text : List ℕ) (o : Option (List (List ℕ) × List ℕ)) → behind_texts texts (option_map (text_first text) o) ≡ behind_texts (texts ++ text ∷ []) o
+one_behind texts text None = refl
+one_behind texts text (Some (more, rest)) = ap (λ (l : List (List ℕ)). Some (l, rest)) (sym (append_assoc texts (text ∷ []) more))
+
+nothing_yet : (o : Option (List (List ℕ) × List ℕ)) → o ≡ behind_texts [] o
+nothing_yet None = refl
+nothing_yet (Some (more, rest)) = refl
+
+-- before the first of so many
+pub none_read : (count : ℕ) (bytes : List ℕ) → strings_field count bytes ≡ behind_texts [] (strings_field (count - 0) bytes)
+none_read count bytes = subst (λ (n : ℕ). strings_field count bytes ≡ behind_texts [] (strings_field n bytes)) (omega arith) (nothing_yet (strings_field count bytes))
+
+module _ (count i : ℕ) (start rest : List ℕ) (texts : List (List ℕ)) (lt : i < count) (so_far : strings_field count start ≡ behind_texts texts (strings_field (count - i) rest)) where
+  one_of : strings_field count start ≡ behind_texts texts (strings_field (suc (count - (i + 1))) rest)
+  one_of =
+      let left : count - i ≡ suc (count - (i + 1)) = omega (arith, lt) in
+      so_far ∙ ap (λ (n : ℕ). behind_texts texts (strings_field n rest)) left
+
+  pub read_more : (text rest' : List ℕ) → string_field rest ≡ Some (text, rest') → strings_field count start ≡ behind_texts (texts ++ text ∷ []) (strings_field (count - (i + 1)) rest')
+  read_more text rest' first =
+      one_of ∙ ap (λ (o : Option (List ℕ × List ℕ)). behind_texts texts (option_and_then (λ p. option_map (text_first p.0) (strings_field (count - (i + 1)) p.1)) o)) first
+      ∙ one_behind texts text (strings_field (count - (i + 1)) rest')
+
+  pub read_broken : (e : FieldFault) (rest' after : List ℕ) → IsField {A = List ℕ} (Err e) (string_field rest) rest' → IsField {A = List (List ℕ)} (Err e) (strings_field count start) after
+  read_broken Broken rest' after none = one_of ∙ ap (λ (o : Option (List ℕ × List ℕ)). behind_texts texts (option_and_then (λ p. option_map (text_first p.0) (strings_field (count - (i + 1)) p.1)) o)) none
+  read_broken NoMemory rest' after none = tt
+
+pub read_all : (count i : ℕ) (start rest : List ℕ) (texts : List (List ℕ)) → count ≤ i → strings_field count start ≡ behind_texts texts (strings_field (count - i) rest) → strings_field count start ≡ Some (texts, rest)
+read_all count i start rest texts le so_far =
+    let none : count - i ≡ 0 = omega (arith, le) in
+    so_far ∙ ap (λ (n : ℕ). behind_texts texts (strings_field n rest)) none ∙ ap (λ (l : List (List ℕ)). Some (l, rest)) (append-nil texts)
