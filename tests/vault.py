@@ -7,6 +7,7 @@ HEADER = b"NBDESK VAULT 001"
 OPEN = 0xA5
 CLOSED = 0x00
 EMPTY = HEADER + bytes([CLOSED])
+SETTINGS = 1
 WHOLE_IMAGE = 7
 LATEST = 250_000_000_000
 
@@ -58,10 +59,19 @@ def body(image):
     )
 
 
-def record(image):
-    """Returns a record: its open gate, its length and its body."""
-    spelled = body(image)
+def gated(spelled):
+    """Returns the record of a body: its open gate, its length and the body."""
     return bytes([OPEN]) + struct.pack(">I", len(spelled)) + spelled
+
+
+def record(image):
+    """Returns the record of a whole image."""
+    return gated(body(image))
+
+
+def settings(*lines):
+    """Returns the body of a record of settings."""
+    return bytes([SETTINGS]) + struct.pack(">I", len(lines)) + b"".join(map(string, lines))
 
 
 def journal(*images):
