@@ -1,4 +1,4 @@
--- Why a run is answered as it is: over any vault, source and clock, whether they tell what they hold or not.
+-- Why a run is answered as it is, and why a session ends: over any vault, source and clock, whether they tell what they hold or not.
 use Rattle.std.specs.Prelude.{◌≡◌, ◌⊎◌, ℕ, ◌≤◌, List, [], ◌∷◌, ◌++◌, length, Ok, Err}
 use Rattle.site_types.specs.Answers.{number_of}
 use Rattle.site_types.specs.Limits.{payload_limit}
