@@ -9,3 +9,4 @@ pub mod Framing
 pub mod Turning
 pub mod TurnLemmas
 pub mod Serving
+pub mod Ending

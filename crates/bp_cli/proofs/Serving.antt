@@ -112,7 +112,7 @@ last_going s (p ∷ []) going = going.0
 last_going s (p ∷ q ∷ os) going = last_going (after_outcome s p) (q ∷ os) going.1
 
 -- whether the last turn is a fault in the framing
-ends_request : (ts : List Turn) (words : List (List ℕ)) (payload : List ℕ) → EndsBroken (ts ++ request words payload ∷ []) → ⊥
+pub ends_request : (ts : List Turn) (words : List (List ℕ)) (payload : List ℕ) → EndsBroken (ts ++ request words payload ∷ []) → ⊥
 ends_request [] words payload ends = ends
 ends_request (t ∷ []) words payload ends = ends
 ends_request (t ∷ u ∷ ts) words payload ends = ends_request (u ∷ ts) words payload ends

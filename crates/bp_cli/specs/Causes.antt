@@ -1,18 +1,21 @@
--- Why a run is answered as it is: over any vault, source and clock, whether they tell what they hold or not.
-use Rattle.std.specs.Prelude.{◌≡◌, ◌⊎◌, ℕ, ◌≤◌, List, length, Ok, Err}
+-- Why a run is answered as it is, and why a session ends: over any vault, source and clock, whether they tell what they hold or not.
+use Rattle.std.specs.Prelude.{◌≡◌, ◌⊎◌, ℕ, ◌≤◌, List, [], ◌∷◌, ◌++◌, length, Ok, Err}
 use Rattle.site_types.specs.Answers.{number_of}
 use Rattle.site_types.specs.Limits.{payload_limit}
 use Rattle.site_types.specs.Requests.{takes_payload}
 use Rattle.site_types.specs.declared.answer.Answer.{Answer}
 use Rattle.site_types.specs.declared.answer.Answer.TheVariants.{OutOfMemory, BadRequest, TooMany, DiskFault, ReadFault, SendFault, ClockFault, NotAVault}
-use Rattle.vault_disk.specs.Disk.{Image}
+use Rattle.vault_disk.specs.Disk.{Disk, Image}
+use Rattle.vault_disk.specs.Steps.{SentPart}
 use Rattle.vault_disk.specs.Input.{Input}
 use Rattle.vault_disk.specs.Ticks.{Ticks}
+use Rattle.session_text.specs.Turns.{Turn, broken, turns}
 use Rattle.desk_model.specs.State.{State}
 use Rattle.desk_model.specs.Step.{step}
 use Rattle.site_desk.specs.Stands.{opened}
 use Rattle.bp_cli.specs.Words.{spoken}
 use Rattle.bp_cli.specs.Gather.{IsGiven, IsMoment, IsTooLong}
+use Rattle.bp_cli.specs.Sessions.{framed, EndsBroken}
 use Rattle.bp_cli.specs.declared.words.Spoken.{Spoken}
 
 -- The payload is the whole of the source and within its limit, or none where the request takes none; the moment is the one that is named, or else one that the clock gave; and on a vault that
@@ -63,3 +66,65 @@ pub record Caused (words : List (List ℕ)) (tells : Type 0) (seen : Image) (inp
   pub answer : Answer
   pub cause : IsCaused words tells seen input input' ticks ticks' answer
   pub status_is : (status ≡ number_of answer) ⊎ ((status ≡ 1) ⊎ (status ≡ 20))
+
+-- the vault opens: where it tells what it holds, it stands for this state
+pub record Opening (disk : Disk) : Type 0 where
+  pub state : State
+  pub stands : disk.tells → opened disk.seen ≡ Ok state
+
+-- a text's turns end with a fault in its framing, seen at the word with this index
+pub record IsBrokenAt (text : List ℕ) (index : ℕ) : Type 0 where
+  pub before : List Turn
+  pub is : turns text ≡ before ++ broken index ∷ []
+
+-- a text was read to its end, and no fault in its framing stands in it
+pub record IsReadOut (text left : List ℕ) : Type 0 where
+  pub nothing : left ≡ []
+  pub unbroken : EndsBroken (turns text) → ⊥
+
+-- The answer that ended a session: a bad request where the framing of its text is broken, no vault where it isn't opened, want of memory or a fault; and no other.
+abbrev pub EndsSession : Disk → Input → Answer → Type 0
+EndsSession disk input OutOfMemory = Unit {0}
+EndsSession disk input (BadRequest index) = Opening disk × (input.tells → IsBrokenAt input.left index)
+EndsSession disk input DiskFault = Unit {0}
+EndsSession disk input ReadFault = Opening disk
+EndsSession disk input ClockFault = Opening disk
+EndsSession disk input (NotAVault offset) = disk.tells → opened disk.seen ≡ Err offset
+EndsSession disk input _ = ⊥
+
+-- an answer ended the session, and its number is the status
+pub record IsEnded (disk : Disk) (input : Input) (status : ℕ) : Type 0 where
+  pub answer : Answer
+  pub ends : EndsSession disk input answer
+  pub status_is : status ≡ number_of answer
+
+-- A vault that stands for no state is answered so: with the offset at which it is none, or want of memory or a fault of the disk in its place; the reply has its frame, and with status 20 a first part of it was sent.
+pub record RefusesVault (offset : ℕ) (old new : Disk) (status : ℕ) : Type 0 where
+  pub answer : Answer
+  pub is : (answer ≡ NotAVault offset) ⊎ ((answer ≡ OutOfMemory) ⊎ (answer ≡ DiskFault))
+  pub part : SentPart old.sent (framed answer) new.sent
+  pub whole : (status ≡ 20) ⊎ ((status ≡ number_of answer) × (new.sent ≡ old.sent ++ framed answer))
+
+-- Why a session ended with its status: 0 at the end of its text, the number of the answer that ended it, or 20 where a send failed. A vault that stands for no state has its answer and no other.
+pub record SessionCaused (old new : Disk) (input input' : Input) (status : ℕ) : Type 0 where
+  pub ends : ((status ≡ 0) × Opening old × (input.tells → IsReadOut input.left input'.left)) ⊎ (IsEnded old input status ⊎ (status ≡ 20))
+  pub unopened : (offset : ℕ) → old.tells → opened old.seen ≡ Err offset → RefusesVault offset old new status
+
+-- what ended the serving of a session on an open vault
+abbrev pub EndsServing : Input → Answer → Type 0
+EndsServing input OutOfMemory = Unit {0}
+EndsServing input (BadRequest index) = input.tells → IsBrokenAt input.left index
+EndsServing input DiskFault = Unit {0}
+EndsServing input ReadFault = Unit {0}
+EndsServing input ClockFault = Unit {0}
+EndsServing input _ = ⊥
+
+-- an answer ended the serving, and its number is the status
+pub record IsEndedServing (input : Input) (status : ℕ) : Type 0 where
+  pub answer : Answer
+  pub ends : EndsServing input answer
+  pub status_is : status ≡ number_of answer
+
+-- why the serving of a session ended: its text did, or an answer ended it, or a send failed
+abbrev pub ServingEnded : Input → Input → ℕ → Type 0
+ServingEnded input input' status = ((status ≡ 0) × (input.tells → IsReadOut input.left input'.left)) ⊎ (IsEndedServing input status ⊎ (status ≡ 20))

@@ -76,8 +76,8 @@ fn send_frame<M: Machine>(
     }
 }
 
-// The text of an answer that has to be made.
-fn made_text(alloc: Global, answer: &Answer) -> Result<Vec<u8>, NoMemory>
+/// The text of an answer that has to be made.
+pub fn made_text(alloc: Global, answer: &Answer) -> Result<Vec<u8>, NoMemory>
     ensures { IfOk result (λ v. v.items ≡ text_of answer.now) }
 {
     let mut text = Vec::new(alloc);

@@ -5,6 +5,7 @@ ghost use Rattle.vault_disk.specs.Disk.{IsLater};
 ghost use Rattle.vault_disk.specs.Input.{IsSameInput};
 ghost use Rattle.vault_disk.specs.Steps.{Rose};
 ghost use Rattle.site_desk.specs.Stands.{Standing};
+ghost use Rattle.bp_cli.specs.Causes.{ServingEnded};
 ghost use Rattle.bp_cli.specs.Sessions.{last_status, Serves};
 
 use crate::turn::{Turned, reply_last, take_turn};
@@ -37,6 +38,7 @@ pub fn serve<M: Machine, S: Source, C: Clock>(
     requires room { 128 ≤ vec_capacity head.old }
     requires new { text.old ≡ [] }
     ensures serves { (found : Result State ℕ) → (M.disk desk.old.vault).tells → Standing (M.disk desk.old.vault) desk.old.state → Serves found desk.old.state (M.disk desk.old.vault) (M.disk desk.new.vault) (S.input source.old) (S.input source.new) (C.ticks clock.old) (C.ticks clock.new) result }
+    ensures ended { ServingEnded (S.input source.old) (S.input source.new) result }
     ensures later { IsLater (M.disk desk.old.vault) (M.disk desk.new.vault) }
     ensures disk_fault { result ≡ 18 → Rose (M.disk desk.old.vault).faults (M.disk desk.new.vault).faults }
     ensures read_fault { result ≡ 19 → Rose (S.input source.old).faults (S.input source.new).faults }

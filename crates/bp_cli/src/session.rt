@@ -1,26 +1,25 @@
 ghost use Rattle.std.specs.Prelude.{◌≡◌, ◌≢◌, ◌⊎◌, true, false, codes, IfOk, MatchResult};
 ghost use Rattle.std.specs.Str.{bytes_eq};
-ghost use Rattle.site_types.specs.Answers.{number_of, text_of};
+ghost use Rattle.site_types.specs.Answers.{number_of};
 ghost use Rattle.vault_disk.specs.Disk.{IsLater};
 ghost use Rattle.vault_disk.specs.Steps.{IsSameBut, Rose};
 ghost use Rattle.desk_model.specs.State.{State, durable};
 ghost use Rattle.site_desk.specs.Stands.{opened, Standing};
-ghost use Rattle.bp_cli.specs.Causes.{Caused};
+ghost use Rattle.bp_cli.specs.Causes.{Caused, SessionCaused};
 ghost use Rattle.bp_cli.specs.Words.{is_session, names_session, spoken};
 ghost use Rattle.bp_cli.specs.Runs.{refusal_of, Ran, Replies, Delivers};
 ghost use Rattle.bp_cli.specs.Sessions.{framed, RanSession, RepliesUnopened, Serves};
 
-use crate::frame::{new_head, write_head};
+use crate::frame::{made_text, new_head, write_head};
 use crate::obey::answered;
 use crate::serve::serve;
+use crate::turn::SEND_FAULT;
 use pool_journal::JournalFault;
 use session_text::SessionText;
 use site_desk::Desk;
 use site_types::{Answer, NoMemory, Text};
 use std::alloc::Global;
 use vault_disk::{Clock, Machine, Source};
-
-const SEND_FAULT: u8 = 20;
 
 // Sends a text. The status is this number, or 20 where the send fails.
 fn deliver<M: Machine>(machine: &mut M, text: &[u8], number: u8) -> u8
@@ -35,14 +34,6 @@ fn deliver<M: Machine>(machine: &mut M, text: &[u8], number: u8) -> u8
     }
 }
 
-fn text_of(alloc: Global, answer: &Answer) -> Result<Vec<u8>, NoMemory>
-    ensures { IfOk result (λ v. v.items ≡ text_of answer.now) }
-{
-    let mut text = Vec::new(alloc);
-    answer.write_text(alloc, &mut text)?;
-    Ok(text)
-}
-
 // Sends the text of an answer; where no memory is left for it, that of want of memory.
 fn reply<M: Machine>(alloc: Global, machine: &mut M, answer: &Answer) -> u8
     ensures replies { (M.disk machine.old).tells → Replies answer.now (M.disk machine.old) (M.disk machine.new) result }
@@ -52,7 +43,7 @@ fn reply<M: Machine>(alloc: Global, machine: &mut M, answer: &Answer) -> u8
 {
     match answer.ready_text() {
         Some(text) => deliver(machine, text, answer.number()),
-        None => match text_of(alloc, answer) {
+        None => match made_text(alloc, answer) {
             Ok(text) => deliver(machine, &text, answer.number()),
             Err(_) => deliver(machine, b"out of memory\n", Answer::OutOfMemory.number()),
         },
@@ -83,7 +74,7 @@ fn run_single<M: Machine, S: Source, C: Clock>(
 fn frame_of(alloc: Global, answer: &Answer) -> Result<Vec<u8>, NoMemory>
     ensures { IfOk result (λ v. v.items ≡ framed answer.now) }
 {
-    let text = text_of(alloc, answer)?;
+    let text = made_text(alloc, answer)?;
     let mut frame = new_head(alloc)?;
     write_head(&mut frame, answer.number(), text.len());
     frame.extend_from_slice(&text)?;
@@ -117,6 +108,7 @@ fn session_on<M: Machine, S: Source, C: Clock>(
     clock: &mut C,
 ) -> (M, u8)
     ensures serves { (s : State) → (M.disk machine).tells → Standing (M.disk machine) s → Serves (opened (M.disk machine).seen) (durable s) (M.disk machine) (M.disk result.0) (S.input source.old) (S.input source.new) (C.ticks clock.old) (C.ticks clock.new) result.1 }
+    ensures session_caused { SessionCaused (M.disk machine) (M.disk result.0) (S.input source.old) (S.input source.new) result.1 }
     ensures later { IsLater (M.disk machine) (M.disk result.0) }
     ensures disk_fault { result.1 ≡ 18 → Rose (M.disk machine).faults (M.disk result.0).faults }
     ensures read_fault { result.1 ≡ 19 → Rose (S.input source.old).faults (S.input source.new).faults }
@@ -148,6 +140,7 @@ fn run_session<M: Machine, S: Source, C: Clock>(
     clock: &mut C,
 ) -> u8
     ensures session { (s : State) → (M.disk machine.old).tells → Standing (M.disk machine.old) s → RanSession (durable s) (M.disk machine.old) (M.disk machine.new) (S.input source.old) (S.input source.new) (C.ticks clock.old) (C.ticks clock.new) result }
+    ensures session_caused { SessionCaused (M.disk machine.old) (M.disk machine.new) (S.input source.old) (S.input source.new) result }
     ensures disk_fault { result ≡ 18 → Rose (M.disk machine.old).faults (M.disk machine.new).faults }
     ensures read_fault { result ≡ 19 → Rose (S.input source.old).faults (S.input source.new).faults }
     ensures send_fault { result ≡ 20 → Rose (M.disk machine.old).send_faults (M.disk machine.new).send_faults }
@@ -183,6 +176,7 @@ pub fn run<M: Machine, S: Source, C: Clock>(
     ensures session { is_session words.now ≡ true → (s : State) → (M.disk machine.old).tells → Standing (M.disk machine.old) s → RanSession (durable s) (M.disk machine.old) (M.disk machine.new) (S.input source.old) (S.input source.new) (C.ticks clock.old) (C.ticks clock.new) result }
     ensures bad_session { names_session words.now ≡ true → is_session words.now ≡ false → (M.disk machine.old).tells → Replies (Answer.BadRequest 1) (M.disk machine.old) (M.disk machine.new) result }
     ensures caused { names_session words.now ≡ false → Caused words.now (M.disk machine.old).tells (M.disk machine.old).seen (S.input source.old) (S.input source.new) (C.ticks clock.old) (C.ticks clock.new) result }
+    ensures session_caused { is_session words.now ≡ true → SessionCaused (M.disk machine.old) (M.disk machine.new) (S.input source.old) (S.input source.new) result }
     ensures bad_words { names_session words.now ≡ false → MatchResult (spoken words.now) (λ _. result ≢ 2) (λ _. (result ≡ 2) ⊎ ((result ≡ 1) ⊎ (result ≡ 20))) }
     ensures disk_fault { result ≡ 18 → Rose (M.disk machine.old).faults (M.disk machine.new).faults }
     ensures read_fault { result ≡ 19 → Rose (S.input source.old).faults (S.input source.new).faults }

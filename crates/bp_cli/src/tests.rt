@@ -1,7 +1,8 @@
+use crate::frame::made_text;
 use crate::run;
 use crate::words::read_spoken;
 use desk_model::PlainDesk;
-use site_types::{Answer, NoMemory, Request, Text};
+use site_types::{NoMemory, Request, Text};
 use std::alloc::{AllocError, Global};
 use vault_disk::{Failed, MemoryClock, MemoryMachine, MemorySource, Source};
 
@@ -171,12 +172,6 @@ fn a_payload_of_the_limit_is_stored(rt: HostRuntime) -> Result<(), NoMemory> {
     Ok(())
 }
 
-fn text_of(alloc: Global, answer: &Answer) -> Result<Vec<u8>, NoMemory> {
-    let mut text = Vec::new(alloc);
-    answer.write_text(alloc, &mut text)?;
-    Ok(text)
-}
-
 #[derive(Drop)]
 struct Wanted {
     status: u8,
@@ -192,7 +187,7 @@ fn step_of(
     let answer = plain.step(alloc, request, b"hello", moment)?;
     Ok(Wanted {
         status: answer.number(),
-        text: text_of(alloc, &answer)?,
+        text: made_text(alloc, &answer)?,
     })
 }
 

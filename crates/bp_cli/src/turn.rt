@@ -8,7 +8,7 @@ ghost use Rattle.vault_disk.specs.Ticks.{IsSameClock};
 ghost use Rattle.site_desk.specs.Stands.{Standing};
 ghost use Rattle.bp_cli.specs.Gather.{IsLimited};
 ghost use Rattle.bp_cli.specs.Words.{IsSpoken};
-ghost use Rattle.bp_cli.specs.Sessions.{answer_in, is_none_given, is_over, turn_spoken, unheard, RepliesLast, RepliesOn, Takes, Turns};
+ghost use Rattle.bp_cli.specs.Sessions.{answer_in, is_none_given, is_over, turn_spoken, unheard, IsOverBy, RepliesLast, RepliesOn, Takes, Turns};
 
 use crate::frame::reply_framed;
 use crate::gather::moment_at;
@@ -85,7 +85,8 @@ pub enum Turned {
     Over { status: u8 },
 }
 
-const SEND_FAULT: u8 = 20;
+/// The status of a run whose send failed.
+pub const SEND_FAULT: u8 = 20;
 
 // A fault of the disk, the source or the clock ends a session.
 fn is_over(number: u8) -> bool
@@ -107,6 +108,7 @@ fn reply_on<M: Machine>(
     ensures on { (M.disk desk.old.vault).tells → RepliesOn answer.now (M.disk desk.old.vault) (M.disk desk.new.vault) result }
     ensures running { result ≡ Turned.On → answer.now ≢ Answer.DiskFault }
     ensures not_done { result ≢ Turned.Over 0 }
+    ensures over { (status : ℕ) → result ≡ Turned.Over status → (status ≡ 20) ⊎ IsOverBy status }
     ensures status { (status : ℕ) → result ≡ Turned.Over status → (status ≡ number_of answer.now) ⊎ ((status ≡ 20) × Rose (M.disk desk.old.vault).send_faults (M.disk desk.new.vault).send_faults) }
     ensures same { IsSameBut (M.disk desk.old.vault) (M.disk desk.new.vault) }
     ensures room { 128 ≤ vec_capacity head.new }
@@ -152,6 +154,7 @@ pub fn take_turn<M: Machine, C: Clock>(
     requires room { 128 ≤ vec_capacity head.old }
     ensures turns { (M.disk desk.old.vault).tells → Standing (M.disk desk.old.vault) desk.old.state → Turns desk.old.state asked.now.words asked.now.payload (M.disk desk.old.vault) (M.disk desk.new.vault) (C.ticks clock.old) (C.ticks clock.new) desk.new.state result }
     ensures running { result ≡ Turned.On → desk.new.stopped ≡ false }
+    ensures over { (status : ℕ) → result ≡ Turned.Over status → (status ≡ 20) ⊎ IsOverBy status }
     ensures later { IsLater (M.disk desk.old.vault) (M.disk desk.new.vault) }
     ensures room { 128 ≤ vec_capacity head.new }
     ensures disk_fault { result ≡ Turned.Over 18 → Rose (M.disk desk.old.vault).faults (M.disk desk.new.vault).faults }

@@ -1,6 +1,9 @@
 //! The desk of a backup site: a folder, the words of a request and a payload in, a reply and a status out.
 #![tactic(auto)]
 
+ghost use Rattle.std.specs.Prelude.{◌≡◌, map, string_bytes, IfOk};
+ghost use Rattle.std.specs.Vec.Iter.{into_iter_items};
+
 use site_types::{Answer, NoMemory, Text};
 use std::alloc::Global;
 use std::env;
@@ -10,7 +13,10 @@ use vault_disk::{FolderMachine, StandardSource, SystemClock};
 
 const BAD_REQUEST: u8 = 2;
 
-fn texts(alloc: Global, arguments: env::Args) -> Result<Vec<Text>, NoMemory> {
+// The bytes of the arguments, one for one and in their order.
+fn texts(alloc: Global, arguments: env::Args) -> Result<Vec<Text>, NoMemory>
+    ensures words { IfOk result (λ words. words.items ≡ map string_bytes (into_iter_items arguments)) }
+{
     let mut words = Vec::new(alloc);
     for argument in arguments {
         words.push(Text::from_vec(argument.into_bytes()))?;

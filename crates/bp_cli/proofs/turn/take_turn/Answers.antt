@@ -4,6 +4,7 @@ use Rattle.vault_disk.specs.Steps.{Rose}
 use Rattle.site_types.specs.declared.answer.Answer.TheVariants.{OutOfMemory}
 use Rattle.bp_cli.specs.declared.turn.Turned.TheVariants.{Over}
 use Rattle.bp_cli.proofs.AnswerLemmas.{is_read_fault, is_send_fault}
+use Rattle.bp_cli.proofs.Ending.{unheard_over}
 use Rattle.bp_cli.proofs.TurnLemmas.{turns}
 use Rattle.bp_cli.proofs.turn.take_turn.Goals as goal
 
@@ -27,3 +28,9 @@ returns-in-Some-clause-not_read g c is = ⊎_elim (λ number. c.in-Some.ensures.
 
 pub returns-in-Some-clause-send_fault : goal.returns-in-Some-clause-send_fault
 returns-in-Some-clause-send_fault g c is = ⊎_elim (λ number. absurd (c.in-Some.ensures.sendable (is_send_fault c.in-Some.answer (sym number)))) (λ unsent. subst (λ (n : ℕ). Rose n (g.M.Vault.disk c.reply_on.new.desk.vault).send_faults) c.answer_request.ensures.same.send_faults unsent.1) (c.reply_on.ensures.status 20 is)
+
+pub returns-in-Some-clause-over : goal.returns-in-Some-clause-over
+returns-in-Some-clause-over g c = c.reply_on.ensures.over
+
+pub returns-in-None-clause-over : goal.returns-in-None-clause-over
+returns-in-None-clause-over g c status is = unheard_over status c.reply_last.result (cc is) c.reply_last.ensures.status
