@@ -4,10 +4,8 @@ ghost use Rattle.site_types.specs.Requests.{IsReading, read_words};
 ghost use Rattle.bp_cli.specs.Gather.{IsLimited};
 ghost use Rattle.bp_cli.specs.Words.{is_moment, moment_of, at_moment, without_moment, spoken, IsSpoken};
 
-use site_types::{Request, Text, WordFault, read_number};
+use site_types::{LAST_MOMENT, Request, Text, WordFault, read_number};
 use std::alloc::Global;
-
-const LAST_MOMENT: u64 = 250_000_000_000;
 
 /// A request, and the moment where the words name one, in seconds since 1970-01-01T00:00:00Z.
 #[derive(Debug, Drop)]

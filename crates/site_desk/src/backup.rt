@@ -7,7 +7,7 @@ ghost use Rattle.site_desk.specs.Desk.{backup_entry, IsTooLate};
 
 use crate::client::Client;
 use pool_journal::{Entry, WholeImage};
-use site_types::{Answer, BackupId, Base, Kind, Name, NoMemory, Text};
+use site_types::{Answer, BackupId, Base, Kind, LAST_MOMENT, Name, NoMemory, Text};
 use std::alloc::Global;
 
 fn built_in_name(alloc: Global, name: &[u8]) -> Result<Name, NoMemory>
@@ -97,7 +97,7 @@ pub fn too_late(alloc: Global, last: u64) -> Answer
         Ok(kind) => Answer::TooMany {
             kind,
             count: last,
-            limit: 250_000_000_000,
+            limit: LAST_MOMENT,
         },
         Err(_) => Answer::OutOfMemory,
     }

@@ -13,12 +13,10 @@ use crate::record::{Recorded, write_record};
 use crate::replay::{replay, take_out};
 use crate::restore::wanted;
 use pool_journal::{Journal, JournalFault};
-use site_types::{Answer, BackupId, Name, Request};
+use site_types::{Answer, BackupId, LAST_MOMENT, Name, Request};
 use std::alloc::Global;
 use std::marker::Model;
 use vault_disk::{Failed, Machine, Vault};
-
-const LAST_MOMENT: u64 = 250_000_000_000;
 
 /// The desk over a vault.
 #[derive(Drop)]

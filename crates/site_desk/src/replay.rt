@@ -11,10 +11,8 @@ ghost use Rattle.site_desk.specs.Opening.{id_in, clients_with, AddsIfAny, Remove
 use crate::catalogue::{Catalogue, Extent};
 use crate::client::{Client, make_room, place_of, raise_at};
 use pool_journal::{Entry, Placed, WholeImage};
-use site_types::{BackupId, Base, NoMemory, Text};
+use site_types::{BackupId, Base, LAST_MOMENT, NoMemory, Text};
 use std::alloc::Global;
-
-const LAST_MOMENT: u64 = 250_000_000_000;
 
 // The id of the image that an entry seals.
 fn id_in(entry: &Entry) -> Option<&BackupId>
