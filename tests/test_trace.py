@@ -137,6 +137,16 @@ class Order(Traced):
         made = before.index(Step("write", 0, len(vault.EMPTY)))
         self.assertIn("sync", whats[made + 1 :], "the header was not synced")
 
+    def test_the_folder_above_each_one_that_is_made_is_synced(self):
+        top = os.path.realpath(self.top)
+        self.desk = desk.Desk(Path(top, "a", "b", "c"))
+        answer, lines = self.trace("@1 bpbackup client=a", payload=b"x")
+        self.check(answer, 0, b"a_1\n")
+        calls = [read for read in map(LINE.match, lines) if read and read[1] in ("fsync", "fdatasync") and read[3] == "0"]
+        synced = [os.path.realpath(FILE.match(read[2])[2]) for read in calls]
+        for above in (top, os.path.join(top, "a"), os.path.join(top, "a", "b"), os.path.join(top, "a", "b", "c")):
+            self.assertIn(above, synced)
+
     def test_a_refusal_writes_nothing(self):
         self.desk.put(vault.journal(vault.Image(b"b", vault.LATEST, b"x", 1)))
         answer, lines = self.trace("@1 bpbackup client=b", payload=b"x")

@@ -171,8 +171,8 @@ impl Folder {
                 let path = self.path.as_str();
                 match lock_folder(rt, path) {
                     Ok(file) => {
-                        self.state = State::Usable;
                         self.add(0, file)?;
+                        self.state = State::Usable;
                         Ok(())
                     }
                     Err(TryLockError::WouldBlock) => {
@@ -209,17 +209,45 @@ fn lock_folder<R: Files<File = File> + AllocGlobal>(
     Ok(file)
 }
 
-fn make_folder<R: Files<File = File>>(rt: &R, path: &str) -> io::Result<()> {
-    if fs::metadata(rt, path).is_ok() {
-        return Ok(());
+// Makes a folder where it is missing, and those above it. The one above each that is made is synced, so that none is lost with the
+// machine.
+fn make_folder<R: Files<File = File> + AllocGlobal>(rt: &R, path: &str) -> io::Result<()> {
+    for folder in missing_folders(rt, path)?.iter().rev() {
+        make_missing(rt, folder)?;
+        sync_folder(rt, folder_above(folder))?;
     }
-    fs::create_dir_all(rt, path)?;
-    match Path::new(path).parent() {
-        Some(parent) => match parent.to_str() {
-            Some(text) if !text.is_empty() => sync_folder(rt, text),
-            _ => sync_folder(rt, "."),
-        },
-        None => Ok(()),
+    Ok(())
+}
+
+// The folders of a path that are missing, the lowest first.
+fn missing_folders<'a, R: Files<File = File> + AllocGlobal>(
+    rt: &R,
+    path: &'a str,
+) -> io::Result<Vec<&'a str>> {
+    let mut missing = Vec::new(rt.alloc());
+    let mut folder = path;
+    for _ in 0..path.len() {
+        if fs::metadata(rt, folder).is_ok() {
+            break;
+        }
+        missing.push(folder)?;
+        folder = folder_above(folder);
+    }
+    Ok(missing)
+}
+
+// Another process may make it first.
+fn make_missing<R: Files<File = File>>(rt: &R, folder: &str) -> io::Result<()> {
+    match fs::create_dir(rt, folder) {
+        Err(fault) if fault.kind() != ErrorKind::AlreadyExists => Err(fault),
+        _ => Ok(()),
+    }
+}
+
+fn folder_above(folder: &str) -> &str {
+    match Path::new(folder).parent().and_then(Path::to_str) {
+        Some(above) if !above.is_empty() => above,
+        _ => ".",
     }
 }
 
