@@ -1,0 +1,17 @@
+//! The book of a site: its units, clients, lifecycles and policies, and each change of them.
+#![tactic(auto)]
+
+mod book;
+mod client;
+mod fault;
+mod policy;
+mod units;
+
+pub use book::Book;
+pub use client::Client;
+pub use fault::BookFault;
+pub use policy::Policy;
+pub use units::{NewUnit, UnitChange};
+
+/// No memory was left.
+pub type NoMemory = std::alloc::AllocError;
