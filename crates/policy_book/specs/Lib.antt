@@ -1,4 +1,6 @@
 pub mod Lists
+pub mod Places
 pub mod Paths
 pub mod Book
 pub mod Changes
+pub mod Refusals

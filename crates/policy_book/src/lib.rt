@@ -3,8 +3,12 @@
 
 mod book;
 mod client;
+mod clients;
 mod fault;
+mod finders;
+mod named;
 mod policy;
+mod refusals;
 mod units;
 
 pub use book::Book;

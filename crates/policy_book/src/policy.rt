@@ -1,5 +1,7 @@
 ghost use Rattle.std.specs.Prelude.{◌≡◌};
+ghost use Rattle.policy_book.specs.Lists.{has, itself};
 
+use crate::named::find;
 use site_types::{Name, Schedule, Text};
 use std::marker::Model;
 
@@ -71,5 +73,12 @@ impl Policy {
         ensures { result.now ≡ self.now.schedules }
     {
         &self.schedules
+    }
+
+    // A client is on its list.
+    pub(crate) fn lists(&self, client: &Name) -> bool
+        ensures { result ≡ has itself client.now self.now.clients }
+    {
+        find(&self.clients, client).is_some()
     }
 }
