@@ -1,6 +1,6 @@
 -- Lists by name.
 use Rattle.std.proofs.Common.{◌≡◌, ◌<◌, ◌+◌, ℕ, zero, suc, List, [], ◌∷◌, length, get_or, set, true, false, cond, Some, None, Result, Ok, Err, refl, sym, ◌∙◌, ap, subst, arith}
-use Rattle.std.specs.Prelude.{insert, not, is_some}
+use Rattle.std.specs.Prelude.{IfOk, insert, not, is_some}
 use Rattle.std.specs.List.{HoldsAt, remove}
 use Rattle.std.specs.Str.{bytes_eq}
 use Rattle.std.specs.Cmp.Lexicographic.{slice_cmp}
@@ -238,3 +238,7 @@ module _ {A : Type 0} (name_of : A → List ℕ) where
 
   pub lacks_at : (xs : List A) (name : List ℕ) (i : ℕ) → LacksAt name_of xs name i → has name_of name xs ≡ false
   lacks_at xs name i lacks = ap is_some (unnamed_at xs name i lacks)
+
+  pub named_if : {E : Type 0} (xs seen : List A) (name : List ℕ) (r : Result ℕ E) → AreByName name_of xs → seen ≡ xs → IfOk r (λ i. StandsAt name_of seen name i) → IfOk r (λ i. (d : A) → named name_of name xs ≡ Some (get_or xs i d))
+  named_if xs seen name (Ok i) rising listed at = λ d. named_at xs name i d rising (stands_as xs seen name name i listed refl at)
+  named_if xs seen name (Err e) rising listed at = tt

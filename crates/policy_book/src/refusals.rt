@@ -48,6 +48,38 @@ pub fn known_place<T: Named>(alloc: Global, list: &[T], name: &Name) -> Result<u
     }
 }
 
+// The other name isn't there, on a list of the policy.
+pub fn check_unlisted<T: Named>(
+    alloc: Global,
+    list: &[T],
+    policy: &Name,
+    other: &Name,
+) -> Result<(), BookFault>
+    requires { AreByName T.name_of list.now }
+    ensures { Allows ((has T.name_of other.now list.now, fault.Exists (pair_text policy.now other.now)) ∷ []) result }
+{
+    if find(list, other).is_some() {
+        return Err(BookFault::Exists(pair_text(alloc, policy, other)?));
+    }
+    Ok(())
+}
+
+// The other name is there.
+pub fn check_listed<T: Named>(
+    alloc: Global,
+    list: &[T],
+    policy: &Name,
+    other: &Name,
+) -> Result<(), BookFault>
+    requires { AreByName T.name_of list.now }
+    ensures { Allows ((not (has T.name_of other.now list.now), fault.Unknown (pair_text policy.now other.now)) ∷ []) result }
+{
+    if find(list, other).is_none() {
+        return Err(BookFault::Unknown(pair_text(alloc, policy, other)?));
+    }
+    Ok(())
+}
+
 // A policy's name and another one, as they are written together.
 pub fn pair_text(alloc: Global, policy: &Name, other: &Name) -> Result<Text, NoMemory>
     ensures { IfOk result (λ text. text ≡ pair_text policy.now other.now) }
