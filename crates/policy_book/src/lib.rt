@@ -6,11 +6,15 @@ mod client;
 mod clients;
 mod fault;
 mod finders;
+mod initial;
 mod listed;
 mod named;
+mod paths;
 mod policies;
 mod policy;
 mod refusals;
+mod schedules;
+mod selections;
 mod units;
 
 pub use book::Book;

@@ -1,4 +1,5 @@
 ghost use Rattle.std.specs.Prelude.{◌≡◌, true, not, [], ◌∷◌, ◌++◌, filter, OnOk, OnErr};
+ghost use Rattle.std.specs.List.{list_any};
 ghost use Rattle.std.specs.Str.{bytes_eq};
 ghost use Rattle.policy_book.specs.Lists.{AreByName, has, put, without, itself};
 ghost use Rattle.policy_book.specs.Book.{schedule_name};
@@ -102,6 +103,15 @@ impl Policy {
         ensures { result ≡ has itself client.now self.now.clients }
     {
         find(&self.clients, client).is_some()
+    }
+
+    // The path is among its selections.
+    pub(crate) fn selects(&self, path: &Text) -> bool
+        ensures { result ≡ list_any (λ s. bytes_eq s path.now) self.now.selections }
+    {
+        self.selections
+            .iter()
+            .any(|selection| selection.bytes() == path.bytes())
     }
 
     // Sets what is given.
