@@ -1,5 +1,5 @@
 // The book of a new vault.
-ghost use Rattle.std.specs.Prelude.{◌≡◌, ◌∷◌, [], true, IfOk, OnOk};
+ghost use Rattle.std.specs.Prelude.{◌≡◌, ◌∷◌, [], true, IfOk};
 ghost use Rattle.site_types.specs.Names.{is_name};
 ghost use Rattle.policy_book.specs.Book.{disk0, first_backup, basic, manual, adhoc, initial_book};
 

@@ -3,7 +3,7 @@ ghost use Rattle.std.specs.Prelude.{◌≡◌, ◌≤◌, ◌+◌, ℕ, List, le
 ghost use Rattle.std.specs.Option.{option_copied};
 ghost use Rattle.std.specs.Cmp.Lexicographic.{slice_cmp};
 ghost use Rattle.std.specs.Ordering.{nat_cmp};
-ghost use Rattle.policy_book.specs.Lists.{AreByName, named, has, put, without};
+ghost use Rattle.policy_book.specs.Lists.{AreByName, named, put, without};
 ghost use Rattle.policy_book.specs.Places.{IsPlace};
 
 use crate::{Client, NoMemory, Policy};

@@ -63,7 +63,7 @@ impl Policy {
         self.files
     }
 
-    /// Its schedules start backups.
+    /// Whether it is active.
     pub fn active(&self) -> bool
         ensures { result ≡ self.now.active }
     {

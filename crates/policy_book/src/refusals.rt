@@ -1,5 +1,5 @@
 // The refusals that several changes share.
-ghost use Rattle.std.specs.Prelude.{◌≡◌, IfOk, [], ◌∷◌, length, not, nat_le};
+ghost use Rattle.std.specs.Prelude.{◌≡◌, IfOk, [], ◌∷◌, not, nat_le};
 ghost use Rattle.policy_book.specs.Lists.{AreByName, has};
 ghost use Rattle.policy_book.specs.Changes.{pair_text};
 ghost use Rattle.policy_book.specs.Places.{StandsAt};

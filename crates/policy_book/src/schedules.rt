@@ -1,5 +1,5 @@
 // The schedules of a policy.
-ghost use Rattle.std.specs.Prelude.{◌≡◌, ◌&&◌, [], ◌∷◌, not, IfOk};
+ghost use Rattle.std.specs.Prelude.{◌&&◌, [], ◌∷◌, not, IfOk};
 ghost use Rattle.policy_book.specs.Places.{StandsAt};
 ghost use Rattle.policy_book.specs.Book.{policy_name};
 ghost use Rattle.policy_book.specs.Changes.{Applied, is_full, schedule_put, schedule_add_refusals, schedule_change_refusals, schedule_removed, schedule_remove_refusals};
