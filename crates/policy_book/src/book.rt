@@ -1,0 +1,58 @@
+ghost use Rattle.std.specs.Prelude.{◌≡◌};
+ghost use Rattle.policy_book.specs.Book.{BookOrdered};
+
+use crate::client::Client;
+use crate::policy::Policy;
+use site_types::Unit;
+use slp_tree::Lifecycles;
+use std::marker::Model;
+
+/// The units, clients, lifecycles and policies of a site, each by name.
+#[derive(Debug, Drop)]
+pub struct Book {
+    pub(crate) units: Vec<Unit>,
+    pub(crate) clients: Vec<Client>,
+    pub(crate) lifecycles: Lifecycles,
+    pub(crate) policies: Vec<Policy>,
+}
+
+impl Model for Book {
+    ghost use Rattle.policy_book.specs.Book.{Book as BookValue, BookOrdered};
+
+    ghost Value = { BookValue };
+
+    ghost view = { λ b. record { units = b.units.items; clients = b.clients.items; lifecycles = b.lifecycles; policies = b.policies.items } };
+
+    ghost invariant = { λ b. BookOrdered (record { units = b.units.items; clients = b.clients.items; lifecycles = b.lifecycles; policies = b.policies.items }) };
+}
+
+impl Book {
+    /// The units, by name.
+    pub fn units(&self) -> &[Unit]
+        ensures units { result.now ≡ self.now.units }
+        ensures ordered { BookOrdered self.now }
+    {
+        &self.units
+    }
+
+    /// The clients, by name.
+    pub fn clients(&self) -> &[Client]
+        ensures { result.now ≡ self.now.clients }
+    {
+        &self.clients
+    }
+
+    /// The lifecycles, by name.
+    pub fn lifecycles(&self) -> &Lifecycles
+        ensures { result.now ≡ self.now.lifecycles }
+    {
+        &self.lifecycles
+    }
+
+    /// The policies, by name.
+    pub fn policies(&self) -> &[Policy]
+        ensures { result.now ≡ self.now.policies }
+    {
+        &self.policies
+    }
+}

@@ -1,0 +1,30 @@
+//! The book of a site: its units, clients, lifecycles and policies, and each change of them.
+#![tactic(auto)]
+
+mod book;
+mod client;
+mod clients;
+mod fault;
+mod finders;
+mod initial;
+mod listed;
+mod named;
+mod paths;
+mod policies;
+mod policy;
+mod refusals;
+mod schedules;
+mod selections;
+mod units;
+
+pub use book::Book;
+pub use client::Client;
+pub use fault::BookFault;
+pub use policy::Policy;
+pub use units::{NewUnit, UnitChange};
+
+/// No memory was left.
+pub type NoMemory = std::alloc::AllocError;
+
+#[cfg(test)]
+mod tests;
