@@ -1,0 +1,3 @@
+pub mod LastTimeLemmas
+pub mod ForemostLemmas
+pub mod FilterLemmas

@@ -13,7 +13,7 @@ use Rattle.schedule_windows.specs.Schedules.{is_due}
 use Rattle.schedule_windows.specs.declared.schedule.Last.{Last}
 use Rattle.policy_book.specs.Book.{Policy}
 use Rattle.desk_rules.specs.declared.site.Site.{Site}
-use Rattle.desk_rules.specs.declared.due_backups.DueBackup.{DueBackup}
+use Rattle.desk_rules.specs.declared.due_list.DueBackup.{DueBackup}
 
 -- the image was made under this policy and schedule for this client
 abbrev pub is_of : List ℕ → List ℕ → List ℕ → ImageRecord → Bool
@@ -39,23 +39,35 @@ mode_before (Calendar items) (Frequency seconds) = true
 mode_before (Frequency seconds) (Calendar items) = false
 mode_before (Frequency seconds) (Frequency other) = nat_lt other seconds
 
+-- of two, the first but where the second goes before it
+abbrev pub fore : Schedule → Schedule → Schedule
+fore s t = if mode_before t.mode s.mode then t else s
+
 -- the schedule that none goes before, and of those that tie the first by name
 abbrev pub foremost : List Schedule → Option Schedule
 foremost [] = None
-foremost (s ∷ ss) = Some (option_map_or (λ t. if mode_before t.mode s.mode then t else s) (foremost ss) s)
+foremost (s ∷ ss) = Some (option_map_or (fore s) (foremost ss) s)
+
+-- a schedule of a policy is due for a client
+abbrev pub is_due_for : ZoneOf → List ImageRecord → ℕ → List ℕ → List ℕ → Schedule → Bool
+is_due_for zone images moment policy client s = is_due s (last_in zone (last_time images policy client s.name)) moment (civil_at zone moment)
 
 -- a policy's schedules that are due for a client
 abbrev pub due_schedules : ZoneOf → List ImageRecord → ℕ → Policy → List ℕ → List Schedule
-due_schedules zone images moment policy client =
-    filter (λ s. is_due s (last_in zone (last_time images policy.name client s.name)) moment (civil_at zone moment)) policy.schedules
+due_schedules zone images moment policy client = filter (is_due_for zone images moment policy.name client) policy.schedules
 
+-- the line of the schedule under which a client is due
 abbrev pub line_of : List ℕ → List ℕ → Option Schedule → List DueBackup
 line_of policy client None = []
 line_of policy client (Some s) = record { policy = policy; client = client; schedule = s.name } ∷ []
 
--- at most one line for each client of a policy's list
+-- at most one line for a client
+abbrev pub due_of_client : ZoneOf → List ImageRecord → ℕ → Policy → List ℕ → List DueBackup
+due_of_client zone images moment policy client = line_of policy.name client (foremost (due_schedules zone images moment policy client))
+
+-- those of the clients of a policy's list
 abbrev pub due_of_policy : ZoneOf → List ImageRecord → ℕ → Policy → List DueBackup
-due_of_policy zone images moment policy = flat_map (λ client. line_of policy.name client (foremost (due_schedules zone images moment policy client))) policy.clients
+due_of_policy zone images moment policy = flat_map (due_of_client zone images moment policy) policy.clients
 
 -- those of the active policies, by policy and then by client
 abbrev pub due_backups : Site → List ImageRecord → ℕ → List DueBackup

@@ -1,10 +1,12 @@
 //! What the rules of a site ask for: the backups that are due.
 #![tactic(auto)]
 
-mod due_backups;
+mod due_list;
+mod foremost;
+mod last_times;
 mod site;
 
-pub use due_backups::DueBackup;
+pub use due_list::{DueBackup, due_backups};
 pub use site::Site;
 
 /// No memory was left.

@@ -1,9 +1,0 @@
-use site_types::Name;
-
-/// A backup that is due: of this client, under this schedule of this policy.
-#[derive(Debug, Drop)]
-pub struct DueBackup {
-    pub policy: Name,
-    pub client: Name,
-    pub schedule: Name,
-}
