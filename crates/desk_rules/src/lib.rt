@@ -5,6 +5,8 @@ mod due_list;
 mod foremost;
 mod last_times;
 mod site;
+#[cfg(test)]
+mod tests;
 
 pub use due_list::{DueBackup, due_backups};
 pub use site::Site;
