@@ -1,4 +1,7 @@
 pub mod Lists
+pub mod Places
 pub mod Paths
 pub mod Book
+pub mod Kinds
 pub mod Changes
+pub mod Refusals

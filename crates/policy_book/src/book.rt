@@ -10,10 +10,10 @@ use std::marker::Model;
 /// The units, clients, lifecycles and policies of a site, each by name.
 #[derive(Debug, Drop)]
 pub struct Book {
-    units: Vec<Unit>,
-    clients: Vec<Client>,
-    lifecycles: Lifecycles,
-    policies: Vec<Policy>,
+    pub(crate) units: Vec<Unit>,
+    pub(crate) clients: Vec<Client>,
+    pub(crate) lifecycles: Lifecycles,
+    pub(crate) policies: Vec<Policy>,
 }
 
 impl Model for Book {

@@ -1,4 +1,9 @@
+ghost use Rattle.std.specs.Prelude.{◌≡◌};
+ghost use Rattle.policy_book.specs.declared.fault.BookFault.TheVariants as fault;
+
+use crate::NoMemory;
 use site_types::Text;
+use std::alloc::AllocFailed;
 
 /// Why a book wasn't changed.
 #[derive(Debug, Drop)]
@@ -14,4 +19,20 @@ pub enum BookFault {
     /// The rule with this number is broken.
     Rule(u8),
     NoMemory,
+}
+
+impl From<NoMemory> for BookFault {
+    ghost from_gives = { λ _ e. e ≡ fault.NoMemory };
+
+    fn from(_: NoMemory) -> BookFault {
+        BookFault::NoMemory
+    }
+}
+
+impl<T: Drop> From<AllocFailed<T>> for BookFault {
+    ghost from_gives = { λ _ e. e ≡ fault.NoMemory };
+
+    fn from(_: AllocFailed<T>) -> BookFault {
+        BookFault::NoMemory
+    }
 }

@@ -3,8 +3,18 @@
 
 mod book;
 mod client;
+mod clients;
 mod fault;
+mod finders;
+mod initial;
+mod listed;
+mod named;
+mod paths;
+mod policies;
 mod policy;
+mod refusals;
+mod schedules;
+mod selections;
 mod units;
 
 pub use book::Book;

@@ -1,6 +1,14 @@
-ghost use Rattle.std.specs.Prelude.{◌≡◌};
+ghost use Rattle.std.specs.Prelude.{◌≡◌, true, not, [], ◌∷◌, ◌++◌, filter, OnOk, OnErr};
+ghost use Rattle.std.specs.List.{list_any};
+ghost use Rattle.std.specs.Str.{bytes_eq};
+ghost use Rattle.policy_book.specs.Lists.{AreByName, has, put, without, itself};
+ghost use Rattle.policy_book.specs.Book.{schedule_name};
+ghost use Rattle.policy_book.specs.Changes.{policy_with};
 
+use crate::NoMemory;
+use crate::named::{find, put, remove};
 use site_types::{Name, Schedule, Text};
+use std::alloc::Global;
 use std::marker::Model;
 
 /// A policy: which clients are backed up, what of them, when, and under which lifecycle.
@@ -26,6 +34,21 @@ impl Model for Policy {
 }
 
 impl Policy {
+    // An active policy that lists no clients and has no selections or schedules yet.
+    pub(crate) fn new(alloc: Global, name: Name, files: bool, lifecycle: Name) -> Policy
+        ensures { result ≡ record { name = name; files = files; active = true; lifecycle = lifecycle; clients = []; selections = []; schedules = [] } }
+    {
+        Policy {
+            name,
+            files,
+            active: true,
+            lifecycle,
+            clients: Vec::new(alloc),
+            selections: Vec::new(alloc),
+            schedules: Vec::new(alloc),
+        }
+    }
+
     pub fn name(&self) -> &Name
         ensures { result.now ≡ self.now.name }
     {
@@ -54,7 +77,8 @@ impl Policy {
 
     /// The clients on its list, by name.
     pub fn clients(&self) -> &[Name]
-        ensures { result.now ≡ self.now.clients }
+        ensures clients { result.now ≡ self.now.clients }
+        ensures by_name { AreByName itself self.now.clients }
     {
         &self.clients
     }
@@ -68,8 +92,82 @@ impl Policy {
 
     /// Its schedules, by name.
     pub fn schedules(&self) -> &[Schedule]
-        ensures { result.now ≡ self.now.schedules }
+        ensures schedules { result.now ≡ self.now.schedules }
+        ensures by_name { AreByName schedule_name self.now.schedules }
     {
         &self.schedules
+    }
+
+    // A client is on its list.
+    pub(crate) fn lists(&self, client: &Name) -> bool
+        ensures { result ≡ has itself client.now self.now.clients }
+    {
+        find(&self.clients, client).is_some()
+    }
+
+    // The path is among its selections.
+    pub(crate) fn selects(&self, path: &Text) -> bool
+        ensures { result ≡ list_any (λ s. bytes_eq s path.now) self.now.selections }
+    {
+        self.selections
+            .iter()
+            .any(|selection| selection.bytes() == path.bytes())
+    }
+
+    // Sets what is given.
+    pub(crate) fn set(&mut self, active: Option<bool>, lifecycle: Option<Name>)
+        ensures { self.new ≡ policy_with active lifecycle self.old }
+    {
+        if let Some(active) = active {
+            self.active = active;
+        }
+        if let Some(lifecycle) = lifecycle {
+            self.lifecycle = lifecycle;
+        }
+    }
+
+    // Puts a client on the list. Without memory the policy stays.
+    pub(crate) fn list(&mut self, client: Name) -> Result<(), NoMemory>
+        ensures listed { OnOk result (self.new ≡ record self.old { clients = put itself client self.old.clients }) }
+        ensures unchanged { OnErr result (self.new ≡ self.old) }
+    {
+        put(&mut self.clients, client)
+    }
+
+    // Takes a client off the list.
+    pub(crate) fn unlist(&mut self, client: &Name)
+        ensures { self.new ≡ record self.old { clients = without itself client.now self.old.clients } }
+    {
+        remove(&mut self.clients, client);
+    }
+
+    // Puts a schedule at its place, in place of the one of its name. Without memory the policy stays.
+    pub(crate) fn put_schedule(&mut self, schedule: Schedule) -> Result<(), NoMemory>
+        ensures put { OnOk result (self.new ≡ record self.old { schedules = put schedule_name schedule self.old.schedules }) }
+        ensures unchanged { OnErr result (self.new ≡ self.old) }
+    {
+        put(&mut self.schedules, schedule)
+    }
+
+    pub(crate) fn remove_schedule(&mut self, schedule: &Name)
+        ensures { self.new ≡ record self.old { schedules = without schedule_name schedule.now self.old.schedules } }
+    {
+        remove(&mut self.schedules, schedule);
+    }
+
+    // Adds a path behind the others. Without memory the policy stays.
+    pub(crate) fn select(&mut self, path: Text) -> Result<(), NoMemory>
+        ensures selected { OnOk result (self.new ≡ record self.old { selections = self.old.selections ++ path ∷ [] }) }
+        ensures unchanged { OnErr result (self.new ≡ self.old) }
+    {
+        self.selections.push(path)?;
+        Ok(())
+    }
+
+    pub(crate) fn unselect(&mut self, path: &Text)
+        ensures { self.new ≡ record self.old { selections = filter (λ s. not (bytes_eq s path.now)) self.old.selections } }
+    {
+        self.selections
+            .retain(|selection| selection.bytes() != path.bytes());
     }
 }

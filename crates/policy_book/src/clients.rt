@@ -1,0 +1,87 @@
+// The clients of a book.
+ghost use Rattle.std.specs.Prelude.{◌≡◌, true, ◌++◌, codes, IfOk};
+ghost use Rattle.std.specs.Option.{option_copied};
+ghost use Rattle.policy_book.specs.Lists.{has};
+ghost use Rattle.policy_book.specs.Book.{client_name};
+ghost use Rattle.policy_book.specs.Changes.{Applied, client_added, client_add_refusals, client_removed, client_remove_refusals, last_raised, lister};
+ghost use Rattle.policy_book.specs.Refusals.{Allows};
+
+use crate::book::Book;
+use crate::named::{place, put, remove};
+use crate::refusals::{check_new, check_room, known_place};
+use crate::{BookFault, Client, NoMemory, Policy};
+use site_types::{Name, Text};
+use std::alloc::Global;
+
+const CLIENT_LIMIT: usize = 1024;
+
+impl Book {
+    /// Adds a client. Where 1,024 clients are there it answers `TooMany`, and where one has this name `Exists`.
+    pub fn add_client(&mut self, alloc: Global, name: &Name) -> Result<(), BookFault>
+        ensures { Applied (client_add_refusals name.now self.old) (client_added name.now self.old) self.old self.new result }
+    {
+        self.check_client_add(alloc, name)?;
+        let client = Client {
+            name: name.copy(alloc)?,
+            last: 0,
+        };
+        put(&mut self.clients, client)?;
+        Ok(())
+    }
+
+    /// Removes a client. Where no client has this name it answers `Unknown`, and where a policy lists it `InUse` by the first
+    /// such policy.
+    pub fn remove_client(&mut self, alloc: Global, name: &Name) -> Result<(), BookFault>
+        ensures { Applied (client_remove_refusals name.now self.old) (client_removed name.now self.old) self.old self.new result }
+    {
+        self.check_client_remove(alloc, name)?;
+        remove(&mut self.clients, name);
+        Ok(())
+    }
+
+    fn check_client_add(&self, alloc: Global, name: &Name) -> Result<(), BookFault>
+        ensures { Allows (client_add_refusals name.now self.now) result }
+    {
+        check_room(alloc, b"clients", self.clients.len(), CLIENT_LIMIT)?;
+        check_new(alloc, &self.clients, name)
+    }
+
+    fn check_client_remove(&self, alloc: Global, name: &Name) -> Result<(), BookFault>
+        ensures { Allows (client_remove_refusals name.now self.now) result }
+    {
+        known_place(alloc, &self.clients, name)?;
+        if let Some(policy) = lister(name, &self.policies) {
+            return Err(BookFault::InUse {
+                name: Text::new(alloc, name.bytes())?,
+                user: policy_text(alloc, policy.name())?,
+            });
+        }
+        Ok(())
+    }
+
+    /// Raises the greatest time of a client's images to this one, in seconds since 1970-01-01T00:00:00Z, where it is lower.
+    pub fn raise_last(&mut self, client: &Name, time: u64)
+        requires { has client_name client.now self.old.clients ≡ true }
+        ensures { self.new ≡ last_raised client.now time self.old }
+    {
+        if let Ok(at) = place(&self.clients, client) {
+            let found = &mut self.clients[at];
+            found.last = found.last.max(time);
+        }
+    }
+}
+
+// The first policy that lists a client.
+fn lister<'a>(name: &Name, policies: &'a [Policy]) -> Option<&'a Policy>
+    ensures { option_copied result ≡ lister name.now policies.now }
+{
+    policies.iter().find(|policy| policy.lists(name))
+}
+
+fn policy_text(alloc: Global, policy: &Name) -> Result<Text, NoMemory>
+    ensures { IfOk result (λ text. text ≡ codes "policy " ++ policy.now) }
+{
+    let mut text = b"policy ".to_vec(alloc)?;
+    text.extend_from_slice(policy.bytes())?;
+    Ok(Text::from_vec(text))
+}
