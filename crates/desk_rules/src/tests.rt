@@ -1,12 +1,14 @@
 ghost use Rattle.std.specs.Bool.{OnTrue};
 ghost use Rattle.desk_rules.specs.DueBackups.{AllInTime};
 
-use crate::NoMemory;
 use crate::foremost::foremost_of;
 use crate::last_times::LastTimes;
+use crate::{NoMemory, Site, due_backups};
+use policy_book::Book;
+use schedule_windows::Zone;
 use site_types::{
-    BackupId, Base, CalendarItem, ImageRecord, Kind, LAST_MOMENT, ListOf, Mode, Name, Schedule,
-    Windows,
+    BackupId, Base, CalendarItem, ImageRecord, Kind, LAST_MOMENT, ListOf, Mode, Name, PolicyType,
+    Schedule, Windows,
 };
 use std::alloc::Global;
 use std::process::Abort;
@@ -15,7 +17,7 @@ fn name(rt: &(impl Abort + Alloc<A = Global>), text: &[u8]) -> Result<Name, NoMe
     Ok(Name::new(rt.alloc(), text)?.expect(rt, "a name"))
 }
 
-// A schedule that is always open: by this frequency, and with 0 on Sundays.
+// A schedule that is always open: by this frequency, and with 0 on Fridays.
 fn schedule(
     rt: &(impl Abort + Alloc<A = Global>),
     text: &[u8],
@@ -23,7 +25,7 @@ fn schedule(
 ) -> Result<Schedule, NoMemory> {
     let mode = match seconds {
         0 => Mode::Calendar(ListOf::from_vec(vec![in rt.alloc();
-            CalendarItem::Weekday { week: 0, day: 0 },
+            CalendarItem::Weekday { week: 0, day: 5 },
         ]?)),
         _ => Mode::Frequency(seconds),
     };
@@ -135,6 +137,95 @@ fn the_last_times_are_those_of_the_same_names(rt: HostRuntime) -> Result<(), NoM
             &name(&rt, schedule)?,
         );
         assert_eq!(rt; time, wanted, "at {policy:?} {client:?} {schedule:?}");
+    }
+    Ok(())
+}
+
+// A policy with these clients and schedules.
+fn add_policy(
+    rt: &(impl Abort + Alloc<A = Global>),
+    book: &mut Book,
+    text: &[u8],
+    clients: &[&[u8]],
+    schedules: &[(&[u8], u64)],
+) -> Result<(), NoMemory> {
+    let alloc = rt.alloc();
+    let policy = name(rt, text)?;
+    let basic = name(rt, b"basic")?;
+    let added = book.add_policy(alloc, &policy, PolicyType::Files, &basic);
+    assert!(rt; added.is_ok());
+    for client in clients {
+        let listed = book.list_client(alloc, &policy, &name(rt, client)?);
+        assert!(rt; listed.is_ok());
+    }
+    for (text, seconds) in schedules {
+        let added = book.add_schedule(alloc, &policy, schedule(rt, text, *seconds)?);
+        assert!(rt; added.is_ok());
+    }
+    Ok(())
+}
+
+fn book(rt: &(impl Abort + Alloc<A = Global>)) -> Result<Book, NoMemory> {
+    let alloc = rt.alloc();
+    let mut book = Book::new(alloc)?;
+    let clients: [&[u8]; 5] = [b"d", b"b", b"e", b"a", b"c"];
+    for client in clients {
+        let added = book.add_client(alloc, &name(rt, client)?);
+        assert!(rt; added.is_ok());
+    }
+    let beta: [(&[u8], u64); 3] = [(b"z", 60), (b"y", 3600), (b"x", 3600)];
+    add_policy(rt, &mut book, b"beta", &[b"c", b"d", b"b"], &beta)?;
+    let alpha: [(&[u8], u64); 3] = [(b"weekly", 604_800), (b"fridays", 0), (b"daily", 86_400)];
+    add_policy(rt, &mut book, b"alpha", &clients, &alpha)?;
+    add_policy(rt, &mut book, b"gamma", &clients, &alpha)?;
+    let changed = book.change_policy(alloc, &name(rt, b"gamma")?, Some(false), None);
+    assert!(rt; changed.is_ok());
+    Ok(book)
+}
+
+#[test]
+fn the_due_backups_are_by_policy_and_client(rt: HostRuntime) -> Result<(), NoMemory> {
+    // a Friday, at eight in the morning
+    let moment = 1_800_000_000;
+    let site = Site {
+        book: book(&rt)?,
+        zone: Zone::fixed(0).expect(&rt, "a zone"),
+    };
+    let rows: [(&[u8], &[u8], &[u8], u64); 13] = [
+        (b"alpha", b"b", b"fridays", moment - 1),
+        (b"alpha", b"b", b"weekly", moment - 604_800),
+        (b"alpha", b"b", b"weekly", moment - 604_801),
+        (b"alpha", b"c", b"fridays", moment - 1),
+        (b"alpha", b"c", b"weekly", moment - 604_799),
+        (b"alpha", b"c", b"daily", moment - 86_400),
+        (b"alpha", b"d", b"fridays", moment - 1),
+        (b"alpha", b"d", b"weekly", moment - 1),
+        (b"alpha", b"d", b"daily", moment - 1),
+        (b"alpha", b"e", b"fridays", moment - 604_800),
+        (b"beta", b"c", b"x", moment - 3599),
+        (b"beta", b"d", b"x", moment - 1),
+        (b"beta", b"d", b"y", moment - 1),
+    ];
+    let mut images = Vec::new(rt.alloc());
+    for row in &rows {
+        images.push(image(&rt, row)?)?;
+    }
+    assert!(rt; all_in_time(&images));
+    let wanted: [(&[u8], &[u8], &[u8]); 7] = [
+        (b"alpha", b"a", b"fridays"),
+        (b"alpha", b"b", b"weekly"),
+        (b"alpha", b"c", b"daily"),
+        (b"alpha", b"e", b"fridays"),
+        (b"beta", b"b", b"x"),
+        (b"beta", b"c", b"y"),
+        (b"beta", b"d", b"z"),
+    ];
+    let due = due_backups(rt.alloc(), &site, &images, moment)?;
+    assert_eq!(rt; due.len(), 7);
+    for (due, (policy, client, schedule)) in due.iter().zip(wanted) {
+        assert_eq!(rt; due.policy.bytes(), policy);
+        assert_eq!(rt; due.client.bytes(), client);
+        assert_eq!(rt; due.schedule.bytes(), schedule);
     }
     Ok(())
 }
