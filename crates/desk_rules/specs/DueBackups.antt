@@ -52,6 +52,10 @@ foremost (s ∷ ss) = Some (option_map_or (fore s) (foremost ss) s)
 abbrev pub is_due_for : ZoneOf → List ImageRecord → ℕ → List ℕ → List ℕ → Schedule → Bool
 is_due_for zone images moment policy client s = is_due s (last_in zone (last_time images policy client s.name)) moment (civil_at zone moment)
 
+-- it is due for a client that has no image of it
+abbrev pub may_be_due : ZoneOf → ℕ → Schedule → Bool
+may_be_due zone moment s = is_due s None moment (civil_at zone moment)
+
 -- a policy's schedules that are due for a client
 abbrev pub due_schedules : ZoneOf → List ImageRecord → ℕ → Policy → List ℕ → List Schedule
 due_schedules zone images moment policy client = filter (is_due_for zone images moment policy.name client) policy.schedules

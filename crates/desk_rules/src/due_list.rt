@@ -1,8 +1,8 @@
-ghost use Rattle.std.specs.Prelude.{◌≡◌, ◌≤◌, ◌++◌, IfOk, OnOk, IfSome};
+ghost use Rattle.std.specs.Prelude.{◌≡◌, ◌≤◌, ◌++◌, map, filter, IfOk, OnOk, IfSome};
 ghost use Rattle.std.specs.Option.{option_map, ForSome};
 ghost use Rattle.site_types.specs.Limits.{last_moment};
 ghost use Rattle.schedule_windows.specs.Zones.{IsCivil, civil_at};
-ghost use Rattle.desk_rules.specs.DueBackups.{last_in, is_due_for, foremost, due_schedules, due_of_client, due_of_policy, due_backups, AllInTime};
+ghost use Rattle.desk_rules.specs.DueBackups.{last_in, is_due_for, may_be_due, foremost, line_of, due_of_policy, due_backups, AllInTime};
 
 use crate::foremost::foremost_of;
 use crate::last_times::LastTimes;
@@ -71,24 +71,44 @@ fn push_policy(
 ) -> Result<(), NoMemory>
     ensures { OnOk result (lines.new.items ≡ lines.old.items ++ due_of_policy moment.now.zone.now moment.now.images moment.now.time policy.now) }
 {
+    let schedules = may_be_due(alloc, moment, policy.schedules())?;
     for client in policy.clients() {
-        push_client(alloc, moment, policy, client, lines)?;
+        push_client(alloc, moment, policy.name(), client, &schedules, lines)?;
     }
     Ok(())
+}
+
+// The schedules that are due for a client that has no image of them. No other is due for any client, so only these need a
+// client's last image.
+fn may_be_due<'a>(
+    alloc: Global,
+    moment: &Moment<'_>,
+    schedules: &'a [Schedule],
+) -> Result<Vec<&'a Schedule>, NoMemory>
+    ensures { IfOk result (λ v. map (λ s. s.now) v.items ≡ filter (may_be_due moment.now.zone.now moment.now.time) schedules.now) }
+{
+    let mut found = Vec::new(alloc);
+    for schedule in schedules {
+        if due(schedule, None, moment.time, moment.civil) {
+            found.push(schedule)?;
+        }
+    }
+    Ok(found)
 }
 
 fn push_client(
     alloc: Global,
     moment: &Moment<'_>,
-    policy: &Policy,
+    policy: &Name,
     client: &Name,
+    schedules: &[&Schedule],
     lines: &mut Vec<DueBackup>,
 ) -> Result<(), NoMemory>
-    ensures { OnOk result (lines.new.items ≡ lines.old.items ++ due_of_client moment.now.zone.now moment.now.images moment.now.time policy.now client.now) }
+    ensures { OnOk result (lines.new.items ≡ lines.old.items ++ line_of policy.now client.now (foremost (filter (is_due_for moment.now.zone.now moment.now.images moment.now.time policy.now client.now) (map (λ s. s.now) schedules.now)))) }
 {
-    if let Some(schedule) = foremost_due(alloc, moment, policy, client)? {
+    if let Some(schedule) = foremost_due(alloc, moment, policy, client, schedules)? {
         lines.push(DueBackup {
-            policy: policy.name().copy(alloc)?,
+            policy: policy.copy(alloc)?,
             client: client.copy(alloc)?,
             schedule: schedule.name.copy(alloc)?,
         })?;
@@ -96,19 +116,20 @@ fn push_client(
     Ok(())
 }
 
-// The schedule under which the client is due.
+// Of these schedules the one under which the client is due.
 fn foremost_due<'a>(
     alloc: Global,
     moment: &Moment<'_>,
-    policy: &'a Policy,
+    policy: &Name,
     client: &Name,
+    schedules: &[&'a Schedule],
 ) -> Result<Option<&'a Schedule>, NoMemory>
-    ensures { IfOk result (λ o. option_map (λ s. s.now) o ≡ foremost (due_schedules moment.now.zone.now moment.now.images moment.now.time policy.now client.now)) }
+    ensures { IfOk result (λ o. option_map (λ s. s.now) o ≡ foremost (filter (is_due_for moment.now.zone.now moment.now.images moment.now.time policy.now client.now) (map (λ s. s.now) schedules.now))) }
 {
     let mut found = None;
-    for schedule in policy.schedules() {
-        if is_due_for(alloc, moment, policy.name(), client, schedule)? {
-            found = Some(foremost_of(found, schedule));
+    for schedule in schedules {
+        if is_due_for(alloc, moment, policy, client, schedule)? {
+            found = Some(foremost_of(found, *schedule));
         }
     }
     Ok(found)
