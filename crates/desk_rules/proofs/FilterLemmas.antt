@@ -1,6 +1,6 @@
 -- What the elements that pass a test give, of one element more.
-use Rattle.std.proofs.Common.{◌≡◌, ◌<◌, ◌+◌, ℕ, List, [], ◌∷◌, ◌++◌, length, take, get_or, Bool, true, false, cond, sym, ◌∙◌, ap, append-nil}
-use Rattle.std.specs.Prelude.{filter}
+use Rattle.std.proofs.Common.{◌≡◌, ◌<◌, ◌+◌, ℕ, List, [], ◌∷◌, ◌++◌, length, take, get_or, Bool, true, false, cond, refl, sym, ◌∙◌, ap, append-nil}
+use Rattle.std.specs.Prelude.{filter, if◌then◌else◌}
 use Rattle.std.specs.List.{flat_map}
 use Rattle.std.proofs.lemmas.List.{take_more}
 use Rattle.std.proofs.lemmas.List.Concat.{flat_map-append}
@@ -13,17 +13,13 @@ module _ {X A : Type 0} (P : X → Bool) (f : X → List A) (xs : List X) (i : �
       ∙ ap (flat_map f) (filter-append P (take i xs) (x ∷ []))
       ∙ flat_map-append f (filter P (take i xs)) (filter P (x ∷ []))
 
-  pub passing_added : (before after : List A) → P x ≡ true → before ≡ flat_map f (filter P (take i xs)) → after ≡ before ++ f x → after ≡ flat_map f (filter P (take (i + 1) xs))
-  passing_added before after passes before_is after_is =
-      after_is
-      ∙ ap (λ (l : List A). l ++ f x) before_is
-      ∙ ap (λ (l : List A). flat_map f (filter P (take i xs)) ++ l) (sym (append-nil (f x)))
-      ∙ (λ j. flat_map f (filter P (take i xs)) ++ flat_map f (cond (sym passes j) (x ∷ []) []))
-      ∙ sym one_more
+  of_one : (b : Bool) → flat_map f (cond b (x ∷ []) []) ≡ (if b then f x else [])
+  of_one true = append-nil (f x)
+  of_one false = refl
 
-  pub other_passed : (before : List A) → P x ≡ false → before ≡ flat_map f (filter P (take i xs)) → before ≡ flat_map f (filter P (take (i + 1) xs))
-  other_passed before other before_is =
-      before_is
-      ∙ sym (append-nil (flat_map f (filter P (take i xs))))
-      ∙ (λ j. flat_map f (filter P (take i xs)) ++ flat_map f (cond (sym other j) (x ∷ []) []))
+  pub one_added : (before after : List A) → before ≡ flat_map f (filter P (take i xs)) → after ≡ before ++ (if P x then f x else []) → after ≡ flat_map f (filter P (take (i + 1) xs))
+  one_added before after before_is after_is =
+      after_is
+      ∙ ap (λ (l : List A). l ++ (if P x then f x else [])) before_is
+      ∙ ap (λ (l : List A). flat_map f (filter P (take i xs)) ++ l) (sym (of_one (P x)))
       ∙ sym one_more

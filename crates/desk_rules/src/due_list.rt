@@ -1,4 +1,4 @@
-ghost use Rattle.std.specs.Prelude.{◌≡◌, ◌≤◌, ◌++◌, map, filter, IfOk, OnOk, IfSome};
+ghost use Rattle.std.specs.Prelude.{◌≡◌, ◌≤◌, [], ◌++◌, if◌then◌else◌, map, filter, IfOk, OnOk, IfSome};
 ghost use Rattle.std.specs.Option.{option_map, ForSome};
 ghost use Rattle.site_types.specs.Limits.{last_moment};
 ghost use Rattle.schedule_windows.specs.Zones.{IsCivil, civil_at};
@@ -55,11 +55,23 @@ pub fn due_backups(
     };
     let mut lines = Vec::new(alloc);
     for policy in site.book.policies() {
-        if policy.active() {
-            push_policy(alloc, &moment, policy, &mut lines)?;
-        }
+        push_if_active(alloc, &moment, policy, &mut lines)?;
     }
     Ok(lines)
+}
+
+fn push_if_active(
+    alloc: Global,
+    moment: &Moment<'_>,
+    policy: &Policy,
+    lines: &mut Vec<DueBackup>,
+) -> Result<(), NoMemory>
+    ensures { OnOk result (lines.new.items ≡ lines.old.items ++ (if policy.now.active then due_of_policy moment.now.zone.now moment.now.images moment.now.time policy.now else [])) }
+{
+    if !policy.active() {
+        return Ok(());
+    }
+    push_policy(alloc, moment, policy, lines)
 }
 
 // Adds the lines of a policy's clients.
