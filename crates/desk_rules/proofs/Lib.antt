@@ -1,0 +1,4 @@
+pub mod LastTimeLemmas
+pub mod ForemostLemmas
+pub mod FilterLemmas
+pub mod DueLemmas

@@ -1,0 +1,8 @@
+use Rattle.std.proofs.Common.{◌≡◌, take}
+use Rattle.std.specs.Prelude.{filter}
+use Rattle.std.specs.List.{flat_map}
+use Rattle.desk_rules.specs.DueBackups.{due_of_policy}
+use Rattle.desk_rules.proofs.due_list.due_backups.Given as goal
+
+abbrev pub invariant-loop-policy : goal.invariant-loop-policy
+invariant-loop-policy l = l.lines.items ≡ flat_map (due_of_policy l.site.zone l.images l.fn.moment) (filter (λ p. p.active) (take l.policy-index l.policy-items))

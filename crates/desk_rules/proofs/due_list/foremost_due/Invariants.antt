@@ -1,0 +1,7 @@
+use Rattle.std.proofs.Common.{◌≡◌, map, take}
+use Rattle.std.specs.Prelude.{filter, option_map}
+use Rattle.desk_rules.specs.DueBackups.{is_due_for, foremost}
+use Rattle.desk_rules.proofs.due_list.foremost_due.Given as goal
+
+abbrev pub invariant-loop-schedule : goal.invariant-loop-schedule
+invariant-loop-schedule l = option_map (λ s. s.now) l.found ≡ foremost (filter (is_due_for l.moment.zone.now l.moment.images l.moment.time l.policy l.client) (take l.schedule-index (map (λ s. s.now) l.schedules)))

@@ -1,0 +1,7 @@
+use Rattle.std.proofs.Common.{◌≡◌, ◌++◌, take}
+use Rattle.std.specs.List.{flat_map}
+use Rattle.desk_rules.specs.DueBackups.{due_of_client}
+use Rattle.desk_rules.proofs.due_list.push_policy.Given as goal
+
+abbrev pub invariant-loop-client : goal.invariant-loop-client
+invariant-loop-client l = l.lines.items ≡ l.initial.lines.items ++ flat_map (due_of_client l.moment.zone.now l.moment.images l.moment.time l.policy) (take l.client-index l.client-items)

@@ -1,0 +1,2 @@
+pub mod DueBackups
+pub mod LastTimes
