@@ -42,6 +42,7 @@ impl Book {
         &self.clients
     }
 
+    /// The lifecycles, by name.
     pub fn lifecycles(&self) -> &Lifecycles
         ensures { result.now ≡ self.now.lifecycles }
     {

@@ -18,6 +18,7 @@ pub enum BookFault {
     TooMany { kind: Text, count: u64, limit: u64 },
     /// The rule with this number is broken.
     Rule(u8),
+    /// No memory was left. It may be answered in place of anything else.
     NoMemory,
 }
 

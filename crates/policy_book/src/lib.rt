@@ -25,3 +25,6 @@ pub use units::{NewUnit, UnitChange};
 
 /// No memory was left.
 pub type NoMemory = std::alloc::AllocError;
+
+#[cfg(test)]
+mod tests;

@@ -49,6 +49,7 @@ impl Policy {
         }
     }
 
+    /// Its name.
     pub fn name(&self) -> &Name
         ensures { result.now ≡ self.now.name }
     {
@@ -62,6 +63,7 @@ impl Policy {
         self.files
     }
 
+    /// Its schedules start backups.
     pub fn active(&self) -> bool
         ensures { result ≡ self.now.active }
     {
