@@ -35,8 +35,8 @@ struct Moment<'a> {
 /// The backups that are due at a moment, in seconds since 1970-01-01T00:00:00Z: at most one for each client of each active
 /// policy, by policy and then by client. Where several of a policy's schedules are due for a client, it is made under a
 /// calendar schedule before one by frequency, under a longer frequency before a shorter, and of those that tie under the
-/// first by name. A schedule's last image for a client is the latest of `images` that was made so. The one error is that no
-/// memory was left for the list.
+/// first by name. A schedule's last image for a client is the latest of `images` that was made for that client under that
+/// policy and schedule. The one error is that no memory was left.
 pub fn due_backups(
     alloc: Global,
     site: &Site,
