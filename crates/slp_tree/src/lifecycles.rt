@@ -5,6 +5,7 @@ ghost use Rattle.std.specs.Ordering.{nat_cmp};
 ghost use Rattle.slp_tree.specs.Places.{StandsAt, LacksAt, IsPlace, IsAdded};
 ghost use Rattle.slp_tree.specs.Lifecycles.{Lifecycle as LifecycleValue, AreByName, version_in, version_named, latest_named, add_version};
 
+use crate::copies::{Copied, copy_all};
 use crate::{NoMemory, Slp};
 use site_types::Name;
 use std::alloc::Global;
@@ -27,6 +28,15 @@ impl Model for Lifecycle {
     ghost view = { λ l. record { name = l.name; versions = l.versions.items } };
 
     ghost invariant = { λ l. (1 ≤ length l.versions.items) × (length l.versions.items < 2 ^ 16) };
+}
+
+impl Copied for Lifecycle {
+    fn copy(&self, alloc: Global) -> Result<Lifecycle, NoMemory> {
+        Ok(Lifecycle {
+            name: self.name.copy(alloc)?,
+            versions: copy_all(alloc, &self.versions)?,
+        })
+    }
 }
 
 impl Lifecycle {
@@ -92,6 +102,14 @@ impl Model for Lifecycles {
     ghost view = { λ l. l.listed.items };
 
     ghost invariant = { λ l. AreByName l.listed.items × (length l.listed.items < 2 ^ 32) };
+}
+
+impl Copied for Lifecycles {
+    fn copy(&self, alloc: Global) -> Result<Lifecycles, NoMemory> {
+        Ok(Lifecycles {
+            listed: copy_all(alloc, &self.listed)?,
+        })
+    }
 }
 
 impl Lifecycles {

@@ -4,6 +4,7 @@ ghost use Rattle.slp_tree.specs.Trees.{broken_rule, is_tree, children, needed, w
 ghost use Rattle.slp_tree.specs.Faults.{IsBroken};
 
 use crate::NoMemory;
+use crate::copies::{Copied, copy_all};
 use crate::rules::{broken_rule, reads};
 use site_types::{Name, OpState, Operation, Retention};
 use std::alloc::Global;
@@ -34,6 +35,15 @@ impl Model for Slp {
     ghost view = { λ s. record { priority = s.priority; operations = s.operations.items } };
 
     ghost invariant = { λ s. is_tree s.operations.items ≡ true };
+}
+
+impl Copied for Slp {
+    fn copy(&self, alloc: Global) -> Result<Slp, NoMemory> {
+        Ok(Slp {
+            priority: self.priority,
+            operations: copy_all(alloc, &self.operations)?,
+        })
+    }
 }
 
 impl Slp {
