@@ -1,10 +1,12 @@
-ghost use Rattle.std.specs.Prelude.{◌≡◌};
+ghost use Rattle.std.specs.Prelude.{◌≡◌, IfOk};
 ghost use Rattle.policy_book.specs.Book.{BookOrdered};
 
+use crate::NoMemory;
 use crate::client::Client;
 use crate::policy::Policy;
 use site_types::Unit;
-use slp_tree::Lifecycles;
+use slp_tree::{Copied, Lifecycles, copy_all};
+use std::alloc::Global;
 use std::marker::Model;
 
 /// The units, clients, lifecycles and policies of a site, each by name.
@@ -27,6 +29,18 @@ impl Model for Book {
 }
 
 impl Book {
+    /// An equal book.
+    pub fn copy(&self, alloc: Global) -> Result<Book, NoMemory>
+        ensures { IfOk result (λ copy. copy ≡ self.now) }
+    {
+        Ok(Book {
+            units: copy_all(alloc, &self.units)?,
+            clients: copy_all(alloc, &self.clients)?,
+            lifecycles: self.lifecycles.copy(alloc)?,
+            policies: copy_all(alloc, &self.policies)?,
+        })
+    }
+
     /// The units, by name.
     pub fn units(&self) -> &[Unit]
         ensures units { result.now ≡ self.now.units }

@@ -1,4 +1,7 @@
+use crate::NoMemory;
 use site_types::Name;
+use slp_tree::Copied;
+use std::alloc::Global;
 
 /// A client of the site.
 #[derive(Debug, Drop)]
@@ -6,4 +9,13 @@ pub struct Client {
     pub name: Name,
     /// The greatest time of its images so far, in seconds since 1970-01-01T00:00:00Z; 0 before the first.
     pub last: u64,
+}
+
+impl Copied for Client {
+    fn copy(&self, alloc: Global) -> Result<Client, NoMemory> {
+        Ok(Client {
+            name: self.name.copy(alloc)?,
+            last: self.last,
+        })
+    }
 }

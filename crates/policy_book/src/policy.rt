@@ -8,6 +8,7 @@ ghost use Rattle.policy_book.specs.Changes.{policy_with};
 use crate::NoMemory;
 use crate::named::{find, put, remove};
 use site_types::{Name, Schedule, Text};
+use slp_tree::{Copied, copy_all};
 use std::alloc::Global;
 use std::marker::Model;
 
@@ -31,6 +32,20 @@ impl Model for Policy {
     ghost view = { λ p. record { name = p.name; files = p.files; active = p.active; lifecycle = p.lifecycle; clients = p.clients.items; selections = p.selections.items; schedules = p.schedules.items } };
 
     ghost invariant = { λ p. PolicyOrdered (record { name = p.name; files = p.files; active = p.active; lifecycle = p.lifecycle; clients = p.clients.items; selections = p.selections.items; schedules = p.schedules.items }) };
+}
+
+impl Copied for Policy {
+    fn copy(&self, alloc: Global) -> Result<Policy, NoMemory> {
+        Ok(Policy {
+            name: self.name.copy(alloc)?,
+            files: self.files,
+            active: self.active,
+            lifecycle: self.lifecycle.copy(alloc)?,
+            clients: copy_all(alloc, &self.clients)?,
+            selections: copy_all(alloc, &self.selections)?,
+            schedules: copy_all(alloc, &self.schedules)?,
+        })
+    }
 }
 
 impl Policy {

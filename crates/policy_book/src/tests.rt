@@ -331,3 +331,38 @@ fn the_last_one_that_fits_is_added(rt: HostRuntime) -> Result<(), NoMemory> {
     }
     Ok(())
 }
+
+#[test]
+fn a_copy_has_what_the_book_has_and_changes_alone(rt: HostRuntime) -> Result<(), NoMemory> {
+    let book = compare(
+        &rt,
+        &[
+            (Change::AddClient(b"a"), "Done"),
+            (Change::AddPolicy(b"p", b"basic"), "Done"),
+            (Change::List(b"p", b"a"), "Done"),
+            (Change::Select(b"p", b"/a"), "Done"),
+            (Change::AddSchedule(b"p", b"s", Kind::Full), "Done"),
+        ],
+    )?;
+    let mut copy = book.copy(rt.alloc())?;
+    for (change, wanted) in [
+        (Change::AddClient(b"a"), "Exists a"),
+        (Change::Select(b"p", b"/a"), "Exists /a"),
+        (Change::AddSchedule(b"p", b"s", Kind::Full), "Exists p/s"),
+        (Change::Unlist(b"p", b"a"), "Done"),
+        (Change::RemoveClient(b"a"), "Done"),
+        (Change::RemovePolicy(b"p"), "Done"),
+    ] {
+        let made = make(&rt, &mut copy, change)?;
+        let said = said(rt.alloc(), &made)?;
+        assert_eq!(rt; said.as_str(), wanted, "at {change:?}");
+    }
+    assert_eq!(rt; copy.policies().len(), 1);
+    let client = name(&rt, b"a")?;
+    assert!(rt; book.client(&client).is_some());
+    let policy = book.policy(&name(&rt, b"p")?).expect(&rt, "a policy");
+    assert_eq!(rt; policy.clients().len(), 1);
+    assert_eq!(rt; policy.selections().len(), 1);
+    assert_eq!(rt; policy.schedules().len(), 1);
+    Ok(())
+}
