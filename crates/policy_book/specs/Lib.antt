@@ -5,3 +5,4 @@ pub mod Book
 pub mod Kinds
 pub mod Changes
 pub mod Refusals
+pub mod SiteFile
