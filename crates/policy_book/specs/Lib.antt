@@ -6,3 +6,4 @@ pub mod Kinds
 pub mod Changes
 pub mod Refusals
 pub mod SiteFile
+pub mod Loading
