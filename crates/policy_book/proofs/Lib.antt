@@ -1,3 +1,4 @@
 pub mod ListLemmas
 pub mod BookLemmas
 pub mod RefusalLemmas
+pub mod LineLemmas

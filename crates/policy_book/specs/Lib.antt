@@ -5,3 +5,5 @@ pub mod Book
 pub mod Kinds
 pub mod Changes
 pub mod Refusals
+pub mod SiteFile
+pub mod Loading

@@ -1,5 +1,6 @@
 ghost use Rattle.std.specs.Prelude.{◌≡◌};
 ghost use Rattle.policy_book.specs.declared.fault.BookFault.TheVariants as fault;
+ghost use Rattle.policy_book.specs.declared.fault.LoadFault.TheVariants as load;
 
 use crate::NoMemory;
 use site_types::Text;
@@ -35,5 +36,30 @@ impl<T: Drop> From<AllocFailed<T>> for BookFault {
 
     fn from(_: AllocFailed<T>) -> BookFault {
         BookFault::NoMemory
+    }
+}
+
+/// Why the requests of a site file aren't there.
+#[derive(Clone, Copy, Debug, PartialEq, Eq)]
+pub enum LoadFault {
+    /// It is no site file: no TOML in UTF-8, or a key or a value is none of a site.
+    NotASite,
+    /// No memory was left. It may be answered in place of anything else.
+    NoMemory,
+}
+
+impl From<NoMemory> for LoadFault {
+    ghost from_gives = { λ _ e. e ≡ load.NoMemory };
+
+    fn from(_: NoMemory) -> LoadFault {
+        LoadFault::NoMemory
+    }
+}
+
+impl<T: Drop> From<AllocFailed<T>> for LoadFault {
+    ghost from_gives = { λ _ e. e ≡ load.NoMemory };
+
+    fn from(_: AllocFailed<T>) -> LoadFault {
+        LoadFault::NoMemory
     }
 }

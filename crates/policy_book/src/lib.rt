@@ -13,14 +13,17 @@ mod paths;
 mod policies;
 mod policy;
 mod refusals;
+mod request_lines;
 mod schedules;
 mod selections;
+mod site_file;
 mod units;
 
 pub use book::Book;
 pub use client::Client;
-pub use fault::BookFault;
+pub use fault::{BookFault, LoadFault};
 pub use policy::Policy;
+pub use site_file::site_lines;
 pub use units::{NewUnit, UnitChange};
 
 /// No memory was left.

@@ -1,0 +1,10 @@
+use Rattle.std.proofs.Common.{◌≡◌, Some, drop}
+use Rattle.policy_book.specs.SiteFile.{joined, of_items, table_with, policy_lines}
+use Rattle.toml.specs.View.{items_view}
+use Rattle.policy_book.proofs.site_file.add_policies.Given as goal
+
+-- the lines so far before those of the other items are the lines of them all
+abbrev pub invariant-loop-item : goal.invariant-loop-item
+invariant-loop-item l =
+    joined (Some l.initial.lines.items) (of_items (table_with policy_lines) (items_view l.policies))
+    ≡ joined (Some l.lines.items) (of_items (table_with policy_lines) (items_view (drop l.item-index l.policies)))
