@@ -14,11 +14,11 @@ Line = List (List ℕ)
 abbrev pub text_of : Data → Option (List ℕ)
 text_of (string text) = Some text
 text_of (integer number) = Some (signed_decimal number)
-text_of (float number) = None
-text_of (boolean truth) = None
-text_of (datetime moment) = None
-text_of (array items) = None
-text_of (table members) = None
+text_of (float _) = None
+text_of (boolean _) = None
+text_of (datetime _) = None
+text_of (array _) = None
+text_of (table _) = None
 
 abbrev pub word_of : List ℕ → List ℕ → List ℕ
 word_of key value = key ++ codes "=" ++ value

@@ -30,4 +30,6 @@ pub use units::{NewUnit, UnitChange};
 pub type NoMemory = std::alloc::AllocError;
 
 #[cfg(test)]
+mod site_tests;
+#[cfg(test)]
 mod tests;

@@ -61,16 +61,6 @@ pub fn on_policy(
     Ok(form)
 }
 
-pub fn copy_of(alloc: Global, words: &[Text]) -> Result<Vec<Text>, NoMemory>
-    ensures { IfOk result (λ copy. copy.items ≡ words.now) }
-{
-    let mut copy = Vec::new(alloc);
-    for word in words {
-        copy.push(Text::new(alloc, word.bytes())?)?;
-    }
-    Ok(copy)
-}
-
 fn is_among(keys: &[&[u8]], key: &[u8]) -> bool
     ensures { result ≡ is_among (map (λ k. k.now) keys.now) key.now }
 {

@@ -9,10 +9,11 @@ ghost use Rattle.policy_book.specs.declared.fault.LoadFault.TheVariants as load;
 
 use crate::paths::written;
 use crate::request_lines::{
-    Line, add_request, copy_of, form_of, has_keys, items_at, on_policy, text_of, value_at, word_of,
+    Line, add_request, form_of, has_keys, items_at, on_policy, text_of, value_at, word_of,
 };
 use crate::{LoadFault, NoMemory};
 use site_types::{ListOf, Text};
+use slp_tree::copy_all;
 use std::alloc::Global;
 use toml::{Table, Value};
 
@@ -137,7 +138,7 @@ fn add_table(
 {
     match table {
         Value::Table(members) => {
-            let words = copy_of(alloc, form)?;
+            let words = copy_all(alloc, form)?;
             add_request(alloc, lines, words, keys, &[], members)
         }
         _ => Err(LoadFault::NotASite),
@@ -267,7 +268,7 @@ fn add_with_word(
 ) -> Result<(), NoMemory>
     ensures { OnOk result (lines.new.items ≡ lines.old.items ++ (form.now ++ word ∷ []) ∷ []) }
 {
-    let mut words = copy_of(alloc, form)?;
+    let mut words = copy_all(alloc, form)?;
     words.push(word)?;
     lines.push(ListOf::from_vec(words))?;
     Ok(())
