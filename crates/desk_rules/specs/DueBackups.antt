@@ -13,7 +13,7 @@ use Rattle.schedule_windows.specs.Schedules.{is_due}
 use Rattle.schedule_windows.specs.declared.schedule.Last.{Last}
 use Rattle.policy_book.specs.Book.{Policy}
 use Rattle.desk_rules.specs.declared.site.Site.{Site}
-use Rattle.desk_rules.specs.declared.due_list.DueBackup.{DueBackup}
+use Rattle.site_types.specs.declared.due.DueBackup.{DueBackup}
 
 -- the image was made under this policy and schedule for this client
 abbrev pub is_of : List ℕ → List ℕ → List ℕ → ImageRecord → Bool

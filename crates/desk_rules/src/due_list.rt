@@ -9,16 +9,8 @@ use crate::last_times::LastTimes;
 use crate::{NoMemory, Site};
 use policy_book::Policy;
 use schedule_windows::{Civil, Last, Zone, due};
-use site_types::{ImageRecord, Name, Schedule};
+use site_types::{DueBackup, ImageRecord, Name, Schedule};
 use std::alloc::Global;
-
-/// A backup that is due: of this client, under this schedule of this policy.
-#[derive(Debug, Drop)]
-pub struct DueBackup {
-    pub policy: Name,
-    pub client: Name,
-    pub schedule: Name,
-}
 
 // A moment at a site, with what its zone's clock shows then, and the images that there are.
 #[derive(Drop)]

@@ -8,7 +8,7 @@ mod site;
 #[cfg(test)]
 mod tests;
 
-pub use due_list::{DueBackup, due_backups};
+pub use due_list::due_backups;
 pub use site::Site;
 
 /// No memory was left.

@@ -14,7 +14,7 @@ use Rattle.policy_book.specs.declared.units.UnitChange.{UnitChange}
 use Rattle.policy_book.specs.declared.fault.BookFault.{BookFault}
 use Rattle.policy_book.specs.declared.fault.BookFault.TheVariants.{Exists, Unknown, InUse, TooMany, Rule, NoMemory}
 use Rattle.policy_book.specs.Lists.{named, has, put, without, changed, itself}
-use Rattle.policy_book.specs.Paths.{written}
+use Rattle.site_types.specs.Paths.{written}
 use Rattle.policy_book.specs.Book.{Policy, Book, unit_name, client_name, policy_name, schedule_name, unit_limit, client_limit, policy_limit, listed_limit, selection_limit, schedule_limit}
 
 -- the first refusal that holds

@@ -1,6 +1,5 @@
 pub mod Lists
 pub mod Places
-pub mod Paths
 pub mod Book
 pub mod Kinds
 pub mod Changes

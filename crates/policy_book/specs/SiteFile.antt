@@ -4,7 +4,7 @@ use Rattle.std.specs.List.{list_any}
 use Rattle.std.specs.Str.{bytes_eq}
 use Rattle.std.specs.Fmt.{signed_decimal}
 use Rattle.toml.specs.Data.{Data, string, integer, float, boolean, datetime, array, table, Items, no_items, item, Members, no_members, member, get_member}
-use Rattle.policy_book.specs.Paths.{written}
+use Rattle.site_types.specs.Paths.{written}
 
 -- the words of a request
 abbrev pub Line : Type 0

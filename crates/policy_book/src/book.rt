@@ -4,8 +4,8 @@ ghost use Rattle.policy_book.specs.Book.{BookOrdered};
 use crate::NoMemory;
 use crate::client::Client;
 use crate::policy::Policy;
-use site_types::Unit;
-use slp_tree::{Copied, Lifecycles, copy_all};
+use site_types::{Copied, Unit, copy_all};
+use slp_tree::Lifecycles;
 use std::alloc::Global;
 use std::marker::Model;
 

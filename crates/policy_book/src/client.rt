@@ -1,6 +1,5 @@
 use crate::NoMemory;
-use site_types::Name;
-use slp_tree::Copied;
+use site_types::{Copied, Name};
 use std::alloc::Global;
 
 /// A client of the site.

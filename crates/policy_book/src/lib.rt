@@ -9,7 +9,6 @@ mod finders;
 mod initial;
 mod listed;
 mod named;
-mod paths;
 mod policies;
 mod policy;
 mod refusals;

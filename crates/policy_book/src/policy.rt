@@ -7,8 +7,7 @@ ghost use Rattle.policy_book.specs.Changes.{policy_with};
 
 use crate::NoMemory;
 use crate::named::{find, put, remove};
-use site_types::{Name, Schedule, Text};
-use slp_tree::{Copied, copy_all};
+use site_types::{Copied, Name, Schedule, Text, copy_all};
 use std::alloc::Global;
 use std::marker::Model;
 

@@ -5,12 +5,11 @@ ghost use Rattle.std.specs.Str.{bytes_eq};
 ghost use Rattle.policy_book.specs.Places.{StandsAt};
 ghost use Rattle.policy_book.specs.Book.{policy_name};
 ghost use Rattle.policy_book.specs.Changes.{Applied, path_selected, select_refusals, path_unselected, unselect_refusals};
-ghost use Rattle.policy_book.specs.Paths.{written};
+ghost use Rattle.site_types.specs.Paths.{written};
 ghost use Rattle.policy_book.specs.Refusals.{Allows};
 ghost use Rattle.policy_book.specs.declared.fault.BookFault.TheVariants.{Exists, Unknown};
 
 use crate::book::Book;
-use crate::paths::written;
 use crate::refusals::check_room;
 use crate::{BookFault, Policy};
 use site_types::{Name, Text};

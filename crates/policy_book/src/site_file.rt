@@ -7,13 +7,11 @@ ghost use Rattle.policy_book.specs.SiteFile.{table_with, tables_at, of_items, on
 ghost use Rattle.policy_book.specs.Loading.{Reads, Adds};
 ghost use Rattle.policy_book.specs.declared.fault.LoadFault.TheVariants as load;
 
-use crate::paths::written;
 use crate::request_lines::{
     Line, add_request, form_of, has_keys, items_at, on_policy, text_of, value_at, word_of,
 };
 use crate::{LoadFault, NoMemory};
-use site_types::{ListOf, Text};
-use slp_tree::copy_all;
+use site_types::{ListOf, Text, copy_all, written_path};
 use std::alloc::Global;
 use toml::{Table, Value};
 
@@ -234,7 +232,7 @@ fn add_selections(
     let form = on_policy(alloc, b"bppolicynew", b"select", policy)?;
     let paths = items_at(members, "selections")?;
     for item in paths {
-        let path = written(alloc, &text_of(alloc, item)?)?;
+        let path = written_path(alloc, &text_of(alloc, item)?)?;
         let word = word_of(alloc, b"path", path.bytes())?;
         add_with_word(alloc, lines, &form, word)?;
     }

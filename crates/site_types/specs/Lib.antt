@@ -6,7 +6,14 @@ pub mod Digits
 pub mod Weekdays
 pub mod Joined
 pub mod Calendars
+pub mod CalendarTexts
 pub mod WindowWords
+pub mod WindowTexts
+pub mod ZoneWords
+pub mod Paths
+pub mod Values
 pub mod Ids
 pub mod Answers
+pub mod Keys
 pub mod Requests
+pub mod Lines

@@ -1,123 +1,285 @@
 -- Requests as words: a form, and further words that give values to its keys.
-use Rattle.std.specs.Prelude.{◌≡◌, ◌≤◌, ℕ, ◌+◌, Bool, true, false, ◌&&◌, not, ◌==◌, if◌then◌else◌, List, [], ◌∷◌, ◌++◌, length, codes, Option, Some, None, is_some, position, Result, Ok, Err}
-use Rattle.std.specs.List.{before_first, after_first, list_any}
+use Rattle.std.specs.Prelude.{◌≡◌, ◌≤◌, ℕ, ◌+◌, Bool, true, false, not, nat_lt, if◌then◌else◌, List, [], ◌∷◌, length, codes, Option, Some, None, unwrap_or, Result, Ok, Err, ℤ}
 use Rattle.std.specs.Option.{option_and_then}
 use Rattle.std.specs.Str.{bytes_eq}
-use Rattle.site_types.specs.Ids.{id_of, is_id}
-use Rattle.site_types.specs.Names.{is_name}
+use Rattle.site_types.specs.Calendars.{calendar_of}
+use Rattle.site_types.specs.Ids.{id_of}
 use Rattle.site_types.specs.Numbers.{number_between}
+use Rattle.site_types.specs.Paths.{path_of}
+use Rattle.site_types.specs.Values.{kind_of, type_of, yes_or_no, start_of}
+use Rattle.site_types.specs.WindowWords.{windows_of}
+use Rattle.site_types.specs.ZoneWords.{rule_of, offset_of}
+use Rattle.site_types.specs.Keys.{Key, first_bad, among, name_of, is_of}
+use Rattle.site_types.specs.declared.calendar.CalendarItem.{CalendarItem}
 use Rattle.site_types.specs.declared.id.BackupId.{BackupId}
-use Rattle.site_types.specs.declared.keys.Grammar.{Grammar}
+use Rattle.site_types.specs.declared.image.Kind.{Kind}
 use Rattle.site_types.specs.declared.keys.Grammar.TheVariants as grammar
-use Rattle.site_types.specs.declared.keys.FormKey.{FormKey}
 use Rattle.site_types.specs.declared.request.Request.{Request}
-use Rattle.site_types.specs.declared.request.Request.TheVariants.{Backup, Restore}
+use Rattle.site_types.specs.declared.request.Request.TheVariants.{UnitAdd, UnitChange, ClientAdd, ClientRemove, PolicyAdd, PolicyChange, PolicyRemove, PolicyClientAdd, PolicyClientRemove, PolicySelect, PolicyUnselect, ScheduleAdd, ScheduleChange, ScheduleRemove, ZoneSet, Load, Backup, Restore}
 use Rattle.site_types.specs.declared.request.WordFault.{WordFault}
 use Rattle.site_types.specs.declared.request.WordFault.TheVariants.{Bad, NoMemory}
+use Rattle.site_types.specs.declared.schedule.PolicyType.{PolicyType}
+use Rattle.site_types.specs.declared.schedule.Start.{Start}
+use Rattle.site_types.specs.declared.window.Windows.{Windows}
 
--- a key of a form, and the values that it may have
-pub record Key : Type 0 where
-  pub name : List ℕ
-  pub allows : List ℕ → Bool
+-- The keys that forms have.
 
-abbrev pub is_equals : ℕ → Bool
-is_equals c = c == 61
+abbrev pub name_key : List ℕ → Key
+name_key name = record { name = name; allows = is_of grammar.Name }
 
-abbrev pub has_equals : List ℕ → Bool
-has_equals word = is_some (position is_equals word)
+abbrev pub number_key : List ℕ → ℕ → ℕ → Key
+number_key name least greatest = record { name = name; allows = is_of (grammar.Number least greatest) }
 
--- what stands before the first equals sign of a word, and behind it
-abbrev pub key_of : List ℕ → List ℕ
-key_of word = before_first is_equals word
+abbrev pub capacity_key : Key
+capacity_key = number_key (codes "capacity") 1 1125899906842624
 
-abbrev pub value_of : List ℕ → List ℕ
-value_of word = after_first is_equals word
+abbrev pub slots_key : Key
+slots_key = number_key (codes "slots") 1 16777216
 
--- the key of this name is among these, and may have this value
-abbrev pub allows : List Key → List ℕ → List ℕ → Bool
-allows [] name value = false
-allows (k ∷ ks) name value = if bytes_eq name k.name then k.allows value else allows ks name value
+abbrev pub high_key : Key
+high_key = number_key (codes "high") 1 100
 
--- one of these words gives this key a value
-abbrev pub has_key : List ℕ → List (List ℕ) → Bool
-has_key key words = list_any (λ w. bytes_eq (key_of w) key) words
+abbrev pub low_key : Key
+low_key = number_key (codes "low") 0 99
 
--- the word is a key of the form and a value that it may have, and no earlier word gives that key one
-abbrev pub is_good : List Key → List (List ℕ) → List ℕ → Bool
-is_good keys earlier word = has_equals word && allows keys (key_of word) (value_of word) && not (has_key (key_of word) earlier)
+abbrev pub path_key : Key
+path_key = record { name = codes "path"; allows = is_of grammar.Path }
 
--- the index of the first word that isn't good, where the first of them has this index
-abbrev pub first_bad : List Key → List (List ℕ) → ℕ → List (List ℕ) → Option ℕ
-first_bad keys earlier index [] = None
-first_bad keys earlier index (word ∷ words) = if is_good keys earlier word then first_bad keys (earlier ++ word ∷ []) (index + 1) words else Some index
+-- What a form asks for, by its keys, the index of the first of its further words, and the request that their values make: the request, or the index of the bad word; the number of words where one is missing, or values don't go together.
 
--- the value that the words give to a key
-abbrev pub value_among : List ℕ → List (List ℕ) → Option (List ℕ)
-value_among key [] = None
-value_among key (word ∷ words) = if bytes_eq (key_of word) key then Some (value_of word) else value_among key words
+abbrev pub unless_bad : Option ℕ → Option Request → ℕ → Result Request ℕ
+unless_bad (Some index) request count = Err index
+unless_bad None None count = Err count
+unless_bad None (Some request) count = Ok request
 
--- the value as it stands, where it is a name
-abbrev pub name_of : List ℕ → Option (List ℕ)
-name_of value = if is_name value then Some value else None
+abbrev pub form_read : List Key → ℕ → (List (List ℕ) → Option Request) → List (List ℕ) → Result Request ℕ
+form_read keys at made words = unless_bad (first_bad keys [] at words) (made words) (at + length words)
 
--- the name, id or number that the words give to a key
-abbrev pub name_among : List ℕ → List (List ℕ) → Option (List ℕ)
-name_among key words = option_and_then name_of (value_among key words)
+-- unit add: the low mark is below the high one, 98 and 80 where they aren't given
+abbrev pub unit_add_keys : List Key
+unit_add_keys = name_key (codes "name") ∷ capacity_key ∷ number_key (codes "segment") 16 131072 ∷ number_key (codes "fragment") 1 1048576 ∷ slots_key ∷ high_key ∷ low_key ∷ []
 
-abbrev pub id_among : List ℕ → List (List ℕ) → Option BackupId
-id_among key words = option_and_then id_of (value_among key words)
+abbrev pub unit_add_of : Option (List ℕ) → (capacity segment fragment slots high low : Option ℕ) → Option Request
+unit_add_of None capacity segment fragment slots high low = None
+unit_add_of (Some name) None segment fragment slots high low = None
+unit_add_of (Some name) (Some capacity) segment fragment slots high low = if nat_lt (unwrap_or low 80) (unwrap_or high 98) then Some (UnitAdd name capacity segment fragment slots high low) else None
 
-abbrev pub number_among : ℕ → ℕ → List ℕ → List (List ℕ) → Option ℕ
-number_among least greatest key words = option_and_then (number_between least greatest) (value_among key words)
+abbrev pub unit_add_made : List (List ℕ) → Option Request
+unit_add_made words = unit_add_of (among name_of (codes "name") words) (among (number_between 1 1125899906842624) (codes "capacity") words) (among (number_between 16 131072) (codes "segment") words) (among (number_between 1 1048576) (codes "fragment") words) (among (number_between 1 16777216) (codes "slots") words) (among (number_between 1 100) (codes "high") words) (among (number_between 0 99) (codes "low") words)
 
--- the values that a grammar has
-abbrev pub is_of : Grammar → List ℕ → Bool
-is_of grammar.Name value = is_name value
-is_of grammar.Id value = is_id value
-is_of (grammar.Number least greatest) value = is_some (number_between least greatest value)
+abbrev pub read_unit_add : List (List ℕ) → Result Request ℕ
+read_unit_add words = form_read unit_add_keys 2 unit_add_made words
 
--- a key as the tables of forms have it
-abbrev pub key_stated : FormKey → Key
-key_stated key = record { name = key.name.now; allows = is_of key.grammar }
+-- unit change: both marks or none, the low one below the high one
+abbrev pub unit_change_keys : List Key
+unit_change_keys = name_key (codes "name") ∷ capacity_key ∷ slots_key ∷ high_key ∷ low_key ∷ []
 
--- bpbackup: its keys, and the request that values make
-abbrev pub client_key : Key
-client_key = record { name = codes "client"; allows = is_name }
+abbrev pub are_marks : Option ℕ → Option ℕ → Bool
+are_marks None None = true
+are_marks None (Some low) = false
+are_marks (Some high) None = false
+are_marks (Some high) (Some low) = nat_lt low high
 
+abbrev pub unit_change_of : Option (List ℕ) → (capacity slots high low : Option ℕ) → Option Request
+unit_change_of None capacity slots high low = None
+unit_change_of (Some name) capacity slots high low = if are_marks high low then Some (UnitChange name capacity slots high low) else None
+
+abbrev pub unit_change_made : List (List ℕ) → Option Request
+unit_change_made words = unit_change_of (among name_of (codes "name") words) (among (number_between 1 1125899906842624) (codes "capacity") words) (among (number_between 1 16777216) (codes "slots") words) (among (number_between 1 100) (codes "high") words) (among (number_between 0 99) (codes "low") words)
+
+abbrev pub read_unit_change : List (List ℕ) → Result Request ℕ
+read_unit_change words = form_read unit_change_keys 2 unit_change_made words
+
+-- forms with one name
+abbrev pub named_of : (List ℕ → Request) → Option (List ℕ) → Option Request
+named_of request None = None
+named_of request (Some name) = Some (request name)
+
+abbrev pub named_made : (List ℕ → Request) → List ℕ → List (List ℕ) → Option Request
+named_made request key words = named_of request (among name_of key words)
+
+abbrev pub read_named : (List ℕ → Request) → List ℕ → List (List ℕ) → Result Request ℕ
+read_named request key words = form_read (name_key key ∷ []) 2 (named_made request key) words
+
+-- forms with two names
+abbrev pub pair_of : (List ℕ → List ℕ → Request) → Option (List ℕ) → Option (List ℕ) → Option Request
+pair_of request None second = None
+pair_of request (Some first) None = None
+pair_of request (Some first) (Some second) = Some (request first second)
+
+abbrev pub pair_made : (List ℕ → List ℕ → Request) → List ℕ → List ℕ → List (List ℕ) → Option Request
+pair_made request first second words = pair_of request (among name_of first words) (among name_of second words)
+
+abbrev pub read_pair : (List ℕ → List ℕ → Request) → List ℕ → List ℕ → List (List ℕ) → Result Request ℕ
+read_pair request first second words = form_read (name_key first ∷ name_key second ∷ []) 2 (pair_made request first second) words
+
+-- forms with a policy and a path
+abbrev pub selection_made : (List ℕ → List ℕ → Request) → List (List ℕ) → Option Request
+selection_made request words = pair_of request (among name_of (codes "policy") words) (among path_of (codes "path") words)
+
+abbrev pub read_selection : (List ℕ → List ℕ → Request) → List (List ℕ) → Result Request ℕ
+read_selection request words = form_read (name_key (codes "policy") ∷ path_key ∷ []) 2 (selection_made request) words
+
+-- bppolicynew add
+abbrev pub policy_add_keys : List Key
+policy_add_keys = name_key (codes "policy") ∷ record { name = codes "type"; allows = is_of grammar.PolicyType } ∷ name_key (codes "lifecycle") ∷ []
+
+abbrev pub policy_add_of : Option (List ℕ) → Option PolicyType → Option (List ℕ) → Option Request
+policy_add_of None policy_type lifecycle = None
+policy_add_of (Some policy) None lifecycle = None
+policy_add_of (Some policy) (Some policy_type) None = None
+policy_add_of (Some policy) (Some policy_type) (Some lifecycle) = Some (PolicyAdd policy policy_type lifecycle)
+
+abbrev pub policy_add_made : List (List ℕ) → Option Request
+policy_add_made words = policy_add_of (among name_of (codes "policy") words) (among type_of (codes "type") words) (among name_of (codes "lifecycle") words)
+
+abbrev pub read_policy_add : List (List ℕ) → Result Request ℕ
+read_policy_add words = form_read policy_add_keys 2 policy_add_made words
+
+-- bppolicynew change
+abbrev pub policy_change_keys : List Key
+policy_change_keys = name_key (codes "policy") ∷ record { name = codes "active"; allows = is_of grammar.YesOrNo } ∷ name_key (codes "lifecycle") ∷ []
+
+abbrev pub policy_change_of : Option (List ℕ) → Option Bool → Option (List ℕ) → Option Request
+policy_change_of None active lifecycle = None
+policy_change_of (Some policy) active lifecycle = Some (PolicyChange policy active lifecycle)
+
+abbrev pub policy_change_made : List (List ℕ) → Option Request
+policy_change_made words = policy_change_of (among name_of (codes "policy") words) (among yes_or_no (codes "active") words) (among name_of (codes "lifecycle") words)
+
+abbrev pub read_policy_change : List (List ℕ) → Result Request ℕ
+read_policy_change words = form_read policy_change_keys 2 policy_change_made words
+
+-- bpplsched add and change: a frequency or a calendar
+abbrev pub schedule_keys : List Key
+schedule_keys =
+    name_key (codes "policy")
+    ∷ name_key (codes "schedule")
+    ∷ record { name = codes "kind"; allows = is_of grammar.Kind }
+    ∷ number_key (codes "frequency") 1 3153600000
+    ∷ record { name = codes "calendar"; allows = is_of grammar.Calendar }
+    ∷ record { name = codes "windows"; allows = is_of grammar.Windows }
+    ∷ []
+
+-- a request of a policy, a schedule, its kind, frequency or calendar, and windows
+abbrev pub Scheduling : Type 0
+Scheduling = List ℕ → List ℕ → Kind → Option ℕ → Option (List CalendarItem) → Windows → Request
+
+-- one of two alternatives
+abbrev pub is_one : {A B : Type 0} → Option A → Option B → Bool
+is_one None None = false
+is_one None (Some b) = true
+is_one (Some a) None = true
+is_one (Some a) (Some b) = false
+
+abbrev pub schedule_of : Scheduling → Option (List ℕ) → Option (List ℕ) → Option Kind → Option ℕ → Option (List CalendarItem) → Option Windows → Option Request
+schedule_of request None schedule kind frequency calendar windows = None
+schedule_of request (Some policy) None kind frequency calendar windows = None
+schedule_of request (Some policy) (Some schedule) None frequency calendar windows = None
+schedule_of request (Some policy) (Some schedule) (Some kind) frequency calendar None = None
+schedule_of request (Some policy) (Some schedule) (Some kind) frequency calendar (Some windows) = if is_one frequency calendar then Some (request policy schedule kind frequency calendar windows) else None
+
+abbrev pub schedule_made : Scheduling → List (List ℕ) → Option Request
+schedule_made request words = schedule_of request (among name_of (codes "policy") words) (among name_of (codes "schedule") words) (among kind_of (codes "kind") words) (among (number_between 1 3153600000) (codes "frequency") words) (among calendar_of (codes "calendar") words) (among windows_of (codes "windows") words)
+
+abbrev pub read_schedule : Scheduling → List (List ℕ) → Result Request ℕ
+read_schedule request words = form_read schedule_keys 2 (schedule_made request) words
+
+-- bpzone set: a rule or an offset
+abbrev pub zone_keys : List Key
+zone_keys = record { name = codes "rule"; allows = is_of grammar.Rule } ∷ record { name = codes "offset"; allows = is_of grammar.Offset } ∷ []
+
+abbrev pub zone_of : Option (List ℕ) → Option ℤ → Option Request
+zone_of rule offset = if is_one rule offset then Some (ZoneSet rule offset) else None
+
+abbrev pub zone_made : List (List ℕ) → Option Request
+zone_made words = zone_of (among rule_of (codes "rule") words) (among offset_of (codes "offset") words)
+
+abbrev pub read_zone_set : List (List ℕ) → Result Request ℕ
+read_zone_set words = form_read zone_keys 2 zone_made words
+
+-- bpload, which has no keys
+abbrev pub load_made : List (List ℕ) → Option Request
+load_made words = Some Load
+
+abbrev pub read_load : List (List ℕ) → Result Request ℕ
+read_load words = form_read [] 1 load_made words
+
+-- bpbackup
 abbrev pub backup_keys : List Key
-backup_keys = client_key ∷ []
+backup_keys = name_key (codes "client") ∷ name_key (codes "policy") ∷ name_key (codes "schedule") ∷ record { name = codes "start"; allows = is_of grammar.Start } ∷ []
 
--- a request, or the index of the word that is bad; the number of words where one is missing
-abbrev pub backup_made : Option ℕ → Option (List ℕ) → ℕ → Result Request ℕ
-backup_made (Some index) client count = Err index
-backup_made None None count = Err count
-backup_made None (Some client) count = Ok (Backup client)
+abbrev pub backup_of : (client policy schedule : Option (List ℕ)) → Option Start → Option Request
+backup_of None policy schedule start = None
+backup_of (Some client) policy schedule start = Some (Backup client policy schedule start)
+
+abbrev pub backup_made : List (List ℕ) → Option Request
+backup_made words = backup_of (among name_of (codes "client") words) (among name_of (codes "policy") words) (among name_of (codes "schedule") words) (among start_of (codes "start") words)
 
 abbrev pub read_backup : List (List ℕ) → Result Request ℕ
-read_backup words = backup_made (first_bad backup_keys [] 1 words) (name_among (codes "client") words) (1 + length words)
+read_backup words = form_read backup_keys 1 backup_made words
 
--- bprestore: its keys, of which the copy may be missing, and the request
-abbrev pub id_key : Key
-id_key = record { name = codes "id"; allows = is_id }
-
-abbrev pub copy_key : Key
-copy_key = record { name = codes "copy"; allows = λ value. is_some (number_between 1 32 value) }
-
+-- bprestore by id
 abbrev pub restore_keys : List Key
-restore_keys = id_key ∷ copy_key ∷ []
+restore_keys = record { name = codes "id"; allows = is_of grammar.Id } ∷ number_key (codes "copy") 1 32 ∷ []
 
-abbrev pub restore_made : Option ℕ → Option BackupId → Option ℕ → ℕ → Result Request ℕ
-restore_made (Some index) id copy count = Err index
-restore_made None None copy count = Err count
-restore_made None (Some id) copy count = Ok (Restore id copy)
+abbrev pub restore_of : Option BackupId → Option ℕ → Option Request
+restore_of None copy = None
+restore_of (Some id) copy = Some (Restore id copy)
+
+abbrev pub restore_made : List (List ℕ) → Option Request
+restore_made words = restore_of (among id_of (codes "id") words) (among (number_between 1 32) (codes "copy") words)
 
 abbrev pub read_restore : List (List ℕ) → Result Request ℕ
-read_restore words = restore_made (first_bad restore_keys [] 1 words) (id_among (codes "id") words) (number_among 1 32 (codes "copy") words) (1 + length words)
+read_restore words = form_read restore_keys 1 restore_made words
+
+-- The forms of two words, by their second one. Where it is missing or none of them the index is 1.
+
+abbrev pub read_unit : List (List ℕ) → Result Request ℕ
+read_unit [] = Err 1
+read_unit (action ∷ words) = if bytes_eq action (codes "add") then read_unit_add words else (if bytes_eq action (codes "change") then read_unit_change words else Err 1)
+
+abbrev pub read_client : List (List ℕ) → Result Request ℕ
+read_client [] = Err 1
+read_client (action ∷ words) = if bytes_eq action (codes "add") then read_named ClientAdd (codes "name") words else (if bytes_eq action (codes "remove") then read_named ClientRemove (codes "name") words else Err 1)
+
+abbrev pub read_policy : List (List ℕ) → Result Request ℕ
+read_policy [] = Err 1
+read_policy (action ∷ words) =
+    if bytes_eq action (codes "add") then read_policy_add words
+    else (if bytes_eq action (codes "change") then read_policy_change words
+    else (if bytes_eq action (codes "remove") then read_named PolicyRemove (codes "policy") words
+    else (if bytes_eq action (codes "client-add") then read_pair PolicyClientAdd (codes "policy") (codes "client") words
+    else (if bytes_eq action (codes "client-remove") then read_pair PolicyClientRemove (codes "policy") (codes "client") words
+    else (if bytes_eq action (codes "select") then read_selection PolicySelect words
+    else (if bytes_eq action (codes "unselect") then read_selection PolicyUnselect words
+    else Err 1))))))
+
+abbrev pub read_schedules : List (List ℕ) → Result Request ℕ
+read_schedules [] = Err 1
+read_schedules (action ∷ words) =
+    if bytes_eq action (codes "add") then read_schedule ScheduleAdd words
+    else (if bytes_eq action (codes "change") then read_schedule ScheduleChange words
+    else (if bytes_eq action (codes "remove") then read_pair ScheduleRemove (codes "policy") (codes "schedule") words
+    else Err 1))
+
+abbrev pub read_zone : List (List ℕ) → Result Request ℕ
+read_zone [] = Err 1
+read_zone (action ∷ words) = if bytes_eq action (codes "set") then read_zone_set words else Err 1
 
 -- what these words ask for, or the index of the first bad one
 abbrev pub read_words : List (List ℕ) → Result Request ℕ
 read_words [] = Err 0
-read_words (form ∷ words) = if bytes_eq form (codes "bpbackup") then read_backup words else (if bytes_eq form (codes "bprestore") then read_restore words else Err 0)
+read_words (form ∷ words) =
+    if bytes_eq form (codes "unit") then read_unit words
+    else (if bytes_eq form (codes "client") then read_client words
+    else (if bytes_eq form (codes "bppolicynew") then read_policy words
+    else (if bytes_eq form (codes "bpplsched") then read_schedules words
+    else (if bytes_eq form (codes "bpzone") then read_zone words
+    else (if bytes_eq form (codes "bpload") then read_load words
+    else (if bytes_eq form (codes "bpbackup") then read_backup words
+    else (if bytes_eq form (codes "bprestore") then read_restore words
+    else Err 0)))))))
 
 -- a result of reading words is what they ask for, or want of memory
 abbrev pub IsReading : Result Request WordFault → Result Request ℕ → Type 0
@@ -133,5 +295,6 @@ IsWithin (Err NoMemory) count = Unit {0}
 
 -- requests whose line may name a payload
 abbrev pub takes_payload : Request → Bool
-takes_payload (Backup client) = true
-takes_payload (Restore id copy) = false
+takes_payload Load = true
+takes_payload (Backup client policy schedule start) = true
+takes_payload _ = false

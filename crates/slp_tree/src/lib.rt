@@ -1,13 +1,11 @@
 //! Storage lifecycles: trees of operations that images follow, their versions, and the operations that are due.
 #![tactic(auto)]
 
-mod copies;
 mod due;
 mod lifecycles;
 mod rules;
 mod slp;
 
-pub use copies::{Copied, copy_all};
 pub use due::{DueOp, due_ops};
 pub use lifecycles::Lifecycles;
 pub use slp::{Slp, SlpFault};

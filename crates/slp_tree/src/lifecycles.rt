@@ -5,9 +5,8 @@ ghost use Rattle.std.specs.Ordering.{nat_cmp};
 ghost use Rattle.slp_tree.specs.Places.{StandsAt, LacksAt, IsPlace, IsAdded};
 ghost use Rattle.slp_tree.specs.Lifecycles.{Lifecycle as LifecycleValue, AreByName, version_in, version_named, latest_named, add_version};
 
-use crate::copies::{Copied, copy_all};
 use crate::{NoMemory, Slp};
-use site_types::Name;
+use site_types::{Copied, Name, copy_all};
 use std::alloc::Global;
 use std::cmp::Ordering;
 use std::marker::Model;

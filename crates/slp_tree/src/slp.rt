@@ -4,9 +4,8 @@ ghost use Rattle.slp_tree.specs.Trees.{broken_rule, is_tree, children, needed, w
 ghost use Rattle.slp_tree.specs.Faults.{IsBroken};
 
 use crate::NoMemory;
-use crate::copies::{Copied, copy_all};
 use crate::rules::{broken_rule, reads};
-use site_types::{Name, OpState, Operation, Retention};
+use site_types::{Copied, Name, OpState, Operation, Retention, copy_all};
 use std::alloc::Global;
 use std::marker::Model;
 

@@ -1,9 +1,8 @@
 // How a path is written in a word.
 ghost use Rattle.std.specs.Prelude.{◌≡◌, ◌<◌, ◌++◌, IfOk, OnOk};
-ghost use Rattle.policy_book.specs.Paths.{hex_digit, is_escaped, written_byte, written};
+ghost use Rattle.site_types.specs.Paths.{hex_digit, is_escaped, written_byte, written};
 
-use crate::NoMemory;
-use site_types::Text;
+use crate::{NoMemory, Text};
 use std::alloc::Global;
 
 fn hex_digit(digit: u8) -> u8
@@ -39,7 +38,7 @@ fn push_written(word: &mut Vec<u8>, byte: u8) -> Result<(), NoMemory>
 
 /// A path as it is written in a word: a percent sign and two digits stand for a byte that is no printed character of ASCII,
 /// and for a percent sign.
-pub fn written(alloc: Global, path: &Text) -> Result<Text, NoMemory>
+pub fn written_path(alloc: Global, path: &Text) -> Result<Text, NoMemory>
     ensures { IfOk result (λ word. word ≡ written path.now) }
 {
     let mut word = Vec::new(alloc);

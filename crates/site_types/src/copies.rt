@@ -1,8 +1,7 @@
 // Copies of values that hold memory.
 ghost use Rattle.std.specs.Prelude.{◌≡◌, IfOk};
 
-use crate::NoMemory;
-use site_types::{ListOf, Mode, Name, Operation, Schedule, Text, Unit, Windows};
+use crate::{ListOf, Mode, Name, NoMemory, Operation, Schedule, Text, Unit, Windows};
 use std::alloc::Global;
 
 /// What can be copied where there is memory.
