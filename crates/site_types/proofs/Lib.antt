@@ -4,3 +4,5 @@ pub mod DigitLemmas
 pub mod WindowLemmas
 pub mod JoinedLemmas
 pub mod NumberLemmas
+pub mod SpellingLemmas
+pub mod IdSpelling
