@@ -6,3 +6,4 @@ pub mod JoinedLemmas
 pub mod NumberLemmas
 pub mod SpellingLemmas
 pub mod IdSpelling
+pub mod PieceSpelling
