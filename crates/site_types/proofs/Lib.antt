@@ -7,3 +7,4 @@ pub mod NumberLemmas
 pub mod SpellingLemmas
 pub mod IdSpelling
 pub mod PieceSpelling
+pub mod OffsetSpelling
