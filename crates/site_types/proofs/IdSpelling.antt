@@ -11,7 +11,8 @@ use Rattle.site_types.specs.Limits.{last_moment}
 use Rattle.site_types.specs.Names.{is_name, is_name_byte}
 use Rattle.site_types.specs.Numbers.{number_between}
 use Rattle.site_types.specs.declared.id.BackupId.{BackupId}
-use Rattle.site_types.proofs.SpellingLemmas.{guarded, same_value, number_spelled}
+use Rattle.site_types.proofs.OptionLemmas.{guarded, same_value}
+use Rattle.site_types.proofs.WordSpelling.{number_spelled}
 
 an_underscore : (c : ℕ) → not (is_underscore c) ≡ false → c ≡ 95
 an_underscore c is = grind (arith, nat_tests)

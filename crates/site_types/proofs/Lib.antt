@@ -4,7 +4,12 @@ pub mod DigitLemmas
 pub mod WindowLemmas
 pub mod JoinedLemmas
 pub mod NumberLemmas
-pub mod SpellingLemmas
+pub mod OptionLemmas
+pub mod WordSpelling
 pub mod IdSpelling
 pub mod PieceSpelling
 pub mod OffsetSpelling
+pub mod JoinedSpelling
+pub mod WindowSpelling
+pub mod CalendarSpelling
+pub mod SpellingLemmas

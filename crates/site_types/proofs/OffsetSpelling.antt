@@ -1,8 +1,7 @@
 -- An offset, and a time of the day, are written as they are read.
-use Rattle.std.proofs.Common.{◌≡◌, ◌<◌, ◌≤◌, ◌-◌, ◌+◌, ◌*◌, ◌/◌, ◌%◌, ℕ, zero, suc, ℤ, pos, negsuc, neg_ℤ, unsigned_abs, List, [], ◌∷◌, ◌++◌, length, take, drop, Bool, true, false, refl, sym, ◌∙◌, ap, ap₂, arith}
-use Rattle.std.specs.Prelude.{Some, None, Option, ◌==◌, nat_le, nat_lt, if◌then◌else◌, ◌&&◌}
+use Rattle.std.proofs.Common.{◌≡◌, ◌+◌, ◌*◌, ◌/◌, ◌%◌, ℕ, zero, suc, ℤ, pos, negsuc, neg_ℤ, unsigned_abs, List, ◌∷◌, ◌++◌, length, take, drop, Bool, true, false, refl, sym, ◌∙◌, ap, arith}
+use Rattle.std.specs.Prelude.{Some, None, ◌==◌, nat_le, nat_lt, if◌then◌else◌, ◌&&◌}
 use Rattle.std.specs.List.{slice_index, slice_range}
-use Rattle.std.specs.Option.{option_and_then}
 use Rattle.std.proofs.lemmas.Bool.{and_parts, ltb-true, eqb-true}
 use Rattle.std.proofs.lemmas.List.{drop_more}
 use Rattle.site_types.specs.Digits.{digits_of}
@@ -10,7 +9,7 @@ use Rattle.site_types.specs.WindowTexts.{clock_text}
 use Rattle.site_types.specs.WindowWords.{second_at, second_of}
 use Rattle.site_types.specs.ZoneWords.{seconds_of, signed, offset_of, two_digits, sign_of, offset_text}
 use Rattle.site_types.proofs.PieceSpelling.{cut_between, three_parts, two_spelled}
-use Rattle.site_types.proofs.SpellingLemmas.{guarded, chained, same_value}
+use Rattle.site_types.proofs.OptionLemmas.{guarded, chained, same_value}
 
 -- the hours and the minutes are found again in their seconds
 clock_parts : (hours minutes seconds : ℕ) → seconds_of hours minutes ≡ Some seconds → (seconds / 3600 ≡ hours) × (seconds % 3600 / 60 ≡ minutes)
@@ -31,6 +30,7 @@ sign_parts sign seconds z = at (sign == 43) refl
         let parts = guarded (sign == 45 && nat_le 1 (suc n)) (Some (negsuc n)) z is in
         let same = sym (same_value (negsuc n) z parts.1) in
         (ap sign_of same ∙ sym (eqb-true sign 45 (and_parts (sign == 45) (nat_le 1 (suc n)) parts.0).0), ap unsigned_abs same)
+
     at : (b : Bool) → (sign == 43) ≡ b → (if b then Some (pos seconds) else (if sign == 45 && nat_le 1 seconds then Some (neg_ℤ (pos seconds)) else None)) ≡ Some z → (sign_of z ≡ sign) × (unsigned_abs z ≡ seconds)
     at true plus is = let same = sym (same_value (pos seconds) z is) in (ap sign_of same ∙ sym (eqb-true sign 43 plus), ap unsigned_abs same)
     at false other is = west seconds is

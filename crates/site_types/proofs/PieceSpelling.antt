@@ -1,6 +1,6 @@
 -- Parts of a text: digits, and what stands between separators.
-use Rattle.std.proofs.Common.{◌≡◌, ◌<◌, ◌≤◌, ◌-◌, ◌+◌, ◌*◌, ◌/◌, ◌%◌, ℕ, List, [], ◌∷◌, ◌++◌, length, take, drop, Bool, true, refl, sym, ◌∙◌, ap, ap₂, append_assoc, arith, take-append-drop}
-use Rattle.std.specs.Prelude.{Some, None, Option, ◌==◌, nat_le, if◌then◌else◌, ◌&&◌}
+use Rattle.std.proofs.Common.{◌≡◌, ◌<◌, ◌≤◌, ◌+◌, ◌*◌, ◌/◌, ◌%◌, ℕ, List, [], ◌∷◌, ◌++◌, length, take, drop, true, sym, ◌∙◌, ap, ap₂, append_assoc, arith, take-append-drop}
+use Rattle.std.specs.Prelude.{Some, ◌==◌, nat_le, ◌&&◌}
 use Rattle.std.specs.Char.{is_ascii_digit, digit_value}
 use Rattle.std.specs.List.{slice_index, slice_range, list_all}
 use Rattle.std.specs.Str.Parse.{digits_value}
@@ -11,7 +11,7 @@ use Rattle.std.proofs.lemmas.Str.{digit_value_digit}
 use Rattle.site_types.specs.CalendarTexts.{four_digits}
 use Rattle.site_types.specs.Digits.{digits_of}
 use Rattle.site_types.specs.ZoneWords.{two_digits}
-use Rattle.site_types.proofs.SpellingLemmas.{guarded, same_value}
+use Rattle.site_types.proofs.OptionLemmas.{guarded, same_value}
 
 -- what stands from one place on is what stands before a separator, the separator, and what stands behind it
 pub cut_between : (t : List ℕ) (a b c : ℕ) → a ≤ b → b < length t → slice_index t b ≡ c → slice_range t a b ++ c ∷ drop (b + 1) t ≡ drop a t
@@ -49,7 +49,7 @@ two_spelled t n is = let parts = guarded (length t == 2 && list_all is_ascii_dig
     at : (t : List ℕ) → ((length t == 2) ≡ true) × (list_all is_ascii_digit t ≡ true) → two_digits (digits_value 10 t) ≡ t
     at [] h = absurd (cc h.0)
     at (a ∷ []) h = absurd (cc h.0)
-    at (a ∷ b ∷ []) h = 
+    at (a ∷ b ∷ []) h =
         let first = and_parts (is_ascii_digit a) (list_all is_ascii_digit (b ∷ [])) h.1 in
         let second = and_parts (is_ascii_digit b) (list_all is_ascii_digit []) first.1 in
         two a b _ _ (digit a first.0) (digit b second.0) (digit_below a first.0) (digit_below b second.0)
@@ -70,7 +70,7 @@ four_spelled t n is = let parts = guarded (length t == 4 && list_all is_ascii_di
     at (a ∷ []) h = absurd (cc h.0)
     at (a ∷ b ∷ []) h = absurd (cc h.0)
     at (a ∷ b ∷ c ∷ []) h = absurd (cc h.0)
-    at (a ∷ b ∷ c ∷ d ∷ []) h = 
+    at (a ∷ b ∷ c ∷ d ∷ []) h =
         let first = and_parts (is_ascii_digit a) (list_all is_ascii_digit (b ∷ c ∷ d ∷ [])) h.1 in
         let second = and_parts (is_ascii_digit b) (list_all is_ascii_digit (c ∷ d ∷ [])) first.1 in
         let third = and_parts (is_ascii_digit c) (list_all is_ascii_digit (d ∷ [])) second.1 in
