@@ -4,3 +4,6 @@ pub mod DigitLemmas
 pub mod WindowLemmas
 pub mod JoinedLemmas
 pub mod NumberLemmas
+pub mod SpellingLemmas
+pub mod WordLemmas
+pub mod FormLemmas
