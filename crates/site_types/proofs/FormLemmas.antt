@@ -71,3 +71,84 @@ are_words keys earlier at (word ∷ words) none =
     let here = passed (is_good keys earlier word) (first_bad keys (earlier ++ word ∷ []) (at + 1) words) at none in
     let parts = good_parts (is_word word) (has_equals word) (allows keys (key_of word) (value_of word)) (not (has_key (key_of word) earlier)) here.0 in
     and_from (is_word word) (list_all is_word words) parts.0 (are_words keys (earlier ++ word ∷ []) (at + 1) words here.1)
+
+-- The words in the order of the keys.
+
+-- what the first key gives, and what the others give
+either_gives : {A : Type 0} (b c : Bool) (whole first : Option A) → (b ≡ true → first ≡ whole) → (if b then first else (if c then whole else None)) ≡ (if b || c then whole else None)
+either_gives true c whole first same = same refl
+either_gives false c whole first same = refl
+
+others_give : {A : Type 0} (b c : Bool) (whole : Option A) → (b ≡ true → whole ≡ None) → (if c then whole else None) ≡ (if b || c then whole else None)
+others_give true true whole none = refl
+others_give true false whole none = sym (none refl)
+others_give false c whole none = refl
+
+given_by : (name : List ℕ) (k : Key) (keys : List Key) (words : List (List ℕ)) (given : Option (List ℕ)) → value_among k.name words ≡ given → is_key k.name ≡ true
+    → value_among name (ordered keys words) ≡ (if has_name name keys then value_among name words else None)
+    → value_among name (words_with ((k.name, given) ∷ fields_read keys words)) ≡ (if has_name name (k ∷ keys) then value_among name words else None)
+given_by name k keys words None is key others =
+    others ∙ others_give (bytes_eq k.name name) (has_name name keys) (value_among name words) (λ named. ap (λ (n : List ℕ). value_among n words) (sym ((bytes_eq-Decides k.name name).0 named)) ∙ is)
+given_by name k keys words (Some value) is key others =
+    (λ i. if bytes_eq (key_of-word_with k.name value key i) name then Some (value_of-word_with k.name value key i) else others i)
+    ∙ either_gives (bytes_eq k.name name) (has_name name keys) (value_among name words) (Some value) (λ named. sym is ∙ ap (λ (n : List ℕ). value_among n words) ((bytes_eq-Decides k.name name).0 named))
+
+table_parts : (a b c : Bool) → (a && b && c) ≡ true → (a ≡ true) × (b ≡ true) × (c ≡ true)
+table_parts true true true is = (refl, refl, refl)
+table_parts true true false is = absurd (false≢true is)
+table_parts true false c is = absurd (false≢true is)
+table_parts false b c is = absurd (false≢true is)
+
+parts_of : (k : Key) (keys : List Key) → is_table (k ∷ keys) ≡ true → (is_key k.name ≡ true) × (not (has_name k.name keys) ≡ true) × (is_table keys ≡ true)
+parts_of k keys table = table_parts (is_key k.name) (not (has_name k.name keys)) (is_table keys) table
+
+value_ordered : (name : List ℕ) (keys : List Key) (words : List (List ℕ)) → is_table keys ≡ true → value_among name (ordered keys words) ≡ (if has_name name keys then value_among name words else None)
+value_ordered name [] words table = refl
+value_ordered name (k ∷ keys) words table =
+    let parts = parts_of k keys table in
+    given_by name k keys words (value_among k.name words) refl parts.0 (value_ordered name keys words parts.2)
+
+-- the words in the order of the keys give each of them the same value
+pub same_values : (keys : List Key) (words : List (List ℕ)) → is_table keys ≡ true → (name : List ℕ) → has_name name keys ≡ true → value_among name (ordered keys words) ≡ value_among name words
+same_values keys words table name has = value_ordered name keys words table ∙ (λ i. if has i then value_among name words else None)
+
+-- no earlier word gives one of these keys a value
+abbrev AreFresh : List Key → List (List ℕ) → Type 0
+AreFresh keys earlier = (name : List ℕ) → has_name name keys ≡ true → has_key name earlier ≡ false
+
+word_good : (keys : List Key) (earlier : List (List ℕ)) (name value : List ℕ) → is_key name ≡ true → (allows keys name value ≡ true) × (is_word value ≡ true) → has_key name earlier ≡ false → is_good keys earlier (word_with name value) ≡ true
+word_good keys earlier name value key good fresh =
+    let word = is_word-word_with name value key good.1 in
+    let equals = has_equals-word_with name value key in
+    let allowed : allows keys (key_of (word_with name value)) (value_of (word_with name value)) ≡ true = (λ i. allows keys (key_of-word_with name value key i) (value_of-word_with name value key i)) ∙ good.0 in
+    let new : not (has_key (key_of (word_with name value)) earlier) ≡ true = (λ i. not (has_key (key_of-word_with name value key i) earlier)) ∙ not_from_false (has_key name earlier) fresh in
+    λ i. word i && equals i && allowed i && new i
+
+still_fresh : (k : Key) (keys : List Key) (earlier : List (List ℕ)) (value : List ℕ) → is_table (k ∷ keys) ≡ true → AreFresh (k ∷ keys) earlier → AreFresh keys (earlier ++ word_with k.name value ∷ [])
+still_fresh k keys earlier value table fresh name has =
+    let parts = parts_of k keys table in
+    let other : bytes_eq k.name name ≡ false = false_from_ne_true (bytes_eq k.name name) (λ named. true≢false (sym has ∙ ap (λ (n : List ℕ). has_name n keys) (sym ((bytes_eq-Decides k.name name).0 named)) ∙ not-true (has_name k.name keys) parts.1)) in
+    list_any-append (λ w. bytes_eq (key_of w) name) earlier (word_with k.name value ∷ [])
+    ∙ or_from (has_key name earlier) (has_key name (word_with k.name value ∷ [])) (fresh name (or_right (bytes_eq k.name name) (has_name name keys) has))
+        (or_from (bytes_eq (key_of (word_with k.name value)) name) false (ap (λ (n : List ℕ). bytes_eq n name) (key_of-word_with k.name value parts.0) ∙ other) refl)
+
+-- none of these words is bad, where those before them give values to none of these keys
+abbrev AreGood : List Key → List Key → List (List ℕ) → Type 0
+AreGood table keys words = (earlier : List (List ℕ)) (at : ℕ) → AreFresh keys earlier → first_bad table earlier at (ordered keys words) ≡ None
+
+good_with : (all : List Key) (k : Key) (keys : List Key) (words : List (List ℕ)) (given : Option (List ℕ)) → value_among k.name words ≡ given → is_table (k ∷ keys) ≡ true → AreAllowed all words → AreGood all keys words
+    → (earlier : List (List ℕ)) (at : ℕ) → AreFresh (k ∷ keys) earlier → first_bad all earlier at (words_with ((k.name, given) ∷ fields_read keys words)) ≡ None
+good_with all k keys words None is table allowed good earlier at fresh = good earlier at (λ name has. fresh name (or_right (bytes_eq k.name name) (has_name name keys) has))
+good_with all k keys words (Some value) is table allowed good earlier at fresh =
+    let parts = parts_of k keys table in
+    let here = word_good all earlier k.name value parts.0 (allowed k.name value is) (fresh k.name (or_left (bytes_eq k.name k.name) (has_name k.name keys) ((bytes_eq-Decides k.name k.name).1 refl))) in
+    (λ i. if here i then first_bad all (earlier ++ word_with k.name value ∷ []) (at + 1) (ordered keys words) else Some at)
+    ∙ good (earlier ++ word_with k.name value ∷ []) (at + 1) (still_fresh k keys earlier value table fresh)
+
+are_good : (all keys : List Key) (words : List (List ℕ)) → is_table keys ≡ true → AreAllowed all words → AreGood all keys words
+are_good all [] words table allowed = λ earlier at fresh. refl
+are_good all (k ∷ keys) words table allowed = good_with all k keys words (value_among k.name words) refl table allowed (are_good all keys words (parts_of k keys table).2 allowed)
+
+-- none of the words in the order of the keys is bad
+pub none_bad : (keys : List Key) (words : List (List ℕ)) (at : ℕ) → is_table keys ≡ true → AreAllowed keys words → first_bad keys [] at (ordered keys words) ≡ None
+none_bad keys words at table allowed = are_good keys keys words table allowed [] at (λ name has. refl)

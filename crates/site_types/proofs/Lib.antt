@@ -7,3 +7,4 @@ pub mod NumberLemmas
 pub mod SpellingLemmas
 pub mod WordLemmas
 pub mod FormLemmas
+pub mod RereadLemmas
