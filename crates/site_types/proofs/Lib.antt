@@ -8,3 +8,5 @@ pub mod SpellingLemmas
 pub mod WordLemmas
 pub mod FormLemmas
 pub mod RereadLemmas
+pub mod KeptLemmas
+pub mod UnitForms

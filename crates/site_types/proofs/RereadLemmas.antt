@@ -24,13 +24,17 @@ read_parts None (Some request) count r is = (refl, ap (λ (result : Result Reque
 abbrev pub GiveSame : List Key → List (List ℕ) → List (List ℕ) → Type 0
 GiveSame keys words others = (name : List ℕ) → has_name name keys ≡ true → value_among name others ≡ value_among name words
 
+-- the values that the words give are those of the keys' grammars
+abbrev pub Fit : List Key → List (List ℕ) → Type 0
+Fit keys words = (name value : List ℕ) → value_among name words ≡ Some value → allows keys name value ≡ true
+
 -- A form of these keys and words: what it makes depends on the values of its keys alone, and the words of what it made are the form's, and the given values in the order of the keys.
 pub record IsForm (keys : List Key) (at : ℕ) (made : List (List ℕ) → Option Request) (first : List ℕ) (rest : List (List ℕ)) : Type 0 where
   pub table : is_table keys ≡ true
   pub plain : list_all is_word (first ∷ rest) ≡ true
   pub reads : (words : List (List ℕ)) → read_words ((first ∷ rest) ++ words) ≡ form_read keys at made words
   pub depends : (words others : List (List ℕ)) → GiveSame keys words others → made others ≡ made words
-  pub spells : (words : List (List ℕ)) (r : Request) → AreAllowed keys words → made words ≡ Some r → words_of r ≡ (first ∷ rest) ++ ordered keys words
+  pub spells : (words : List (List ℕ)) (r : Request) → Fit keys words → made words ≡ Some r → words_of r ≡ (first ∷ rest) ++ ordered keys words
 
 pub form_reread : {keys : List Key} {at : ℕ} {made : List (List ℕ) → Option Request} {first : List ℕ} {rest : List (List ℕ)} → IsForm keys at made first rest
     → (words : List (List ℕ)) (r : Request) → form_read keys at made words ≡ Ok r → IsFormed r
@@ -39,18 +43,13 @@ form_reread {keys} {at} {made} {first} {rest} form words r is =
     let allowed = are_allowed keys [] at words parts.0 in
     let good = none_bad keys words at form.table allowed in
     let plain : list_all is_word ((first ∷ rest) ++ ordered keys words) ≡ true = list_all-append is_word (first ∷ rest) (ordered keys words) ∙ and_from _ _ form.plain (are_words keys [] at (ordered keys words) good) in
-    ap (λ (ws : List (List ℕ)). read_words (slice_split is_space (join_with_byte 32 ws))) (form.spells words r allowed parts.1)
+    ap (λ (ws : List (List ℕ)). read_words (slice_split is_space (join_with_byte 32 ws))) (form.spells words r (λ name value given. (allowed name value given).0) parts.1)
     ∙ ap read_words (split_line first (rest ++ ordered keys words) plain)
     ∙ form.reads (ordered keys words)
     ∙ (λ i. unless_bad (good i) (form.depends words (ordered keys words) (same_values keys words form.table) i) (at + length (ordered keys words)))
     ∙ ap (λ (o : Option Request). unless_bad None o (at + length (ordered keys words))) parts.1
 
--- where a grammar has one text for each value, the text of a value that it reads is the one that was read
-pub kept : {A : Type 0} (spelled : List ℕ → Option A) (text : A → List ℕ) → ((t : List ℕ) (x : A) → spelled t ≡ Some x → text x ≡ t)
-    → (value : Option (List ℕ)) → ((t : List ℕ) → value ≡ Some t → is_some (spelled t) ≡ true) → option_map text (option_and_then spelled value) ≡ value
-kept spelled text one None is = refl
-kept {A} spelled text one (Some t) is = at (spelled t) refl (is t refl)
-  where
-    at : (o : Option A) → spelled t ≡ o → is_some o ≡ true → option_map text o ≡ Some t
-    at None read some = absurd (cc some)
-    at (Some x) read some = ap (λ (l : List ℕ). Some l) (one t x read)
+-- what is made where a test passes
+pub chosen : (b : Bool) (request r : Request) → (if b then Some request else None) ≡ Some r → request ≡ r
+chosen true request r is = same_value request r is
+chosen false request r is = absurd (cc is)
