@@ -10,3 +10,7 @@ pub mod FormLemmas
 pub mod RereadLemmas
 pub mod KeptLemmas
 pub mod UnitForms
+pub mod NameForms
+pub mod PolicyForms
+pub mod DeskForms
+pub mod Rereading

@@ -11,7 +11,7 @@ use Rattle.site_types.specs.declared.request.Request.{Request}
 use Rattle.site_types.proofs.FormLemmas.{has_name, is_table, ordered, AreAllowed, same_value, are_allowed, are_words, same_values, none_bad}
 use Rattle.site_types.proofs.WordLemmas.{split_line}
 
-no_error : {P : Type 0} (index : ℕ) (r : Request) → Err index ≡ Ok r → P
+pub no_error : {P : Type 0} (index : ℕ) (r : Request) → Err index ≡ Ok r → P
 no_error index r is = absurd (cc is)
 
 -- what was read: no word is bad, and the values make the request
