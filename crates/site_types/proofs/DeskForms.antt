@@ -1,9 +1,9 @@
 -- The forms of the zone, of loads, backups and restores are read again.
-use Rattle.std.proofs.Common.{◌≡◌, ℕ, List, [], ◌∷◌, ◌++◌, Option, Some, None, option_map, ℤ, codes, refl, sym, ap, ◌∙◌}
+use Rattle.std.proofs.Common.{◌≡◌, ℕ, List, [], ◌∷◌, Option, Some, None, option_map, ℤ, codes, refl, sym, ap, ◌∙◌}
 use Rattle.std.specs.Option.{option_and_then}
 use Rattle.std.specs.Fmt.{decimal}
 use Rattle.site_types.specs.Ids.{id_of, id_text}
-use Rattle.site_types.specs.Keys.{value_among, name_of}
+use Rattle.site_types.specs.Keys.{name_of}
 use Rattle.site_types.specs.Lines.{words_of, words_with}
 use Rattle.site_types.specs.Numbers.{number_between}
 use Rattle.site_types.specs.Requests.{zone_keys, zone_of, zone_made, is_one, load_made, backup_keys, backup_of, backup_made, restore_keys, restore_of, restore_made}
@@ -53,18 +53,18 @@ backup_form = record {
   reads = λ words. refl;
   depends = λ words others same i.
       backup_of
-        (option_and_then name_of (same (codes "client") refl i))
-        (option_and_then name_of (same (codes "policy") refl i))
-        (option_and_then name_of (same (codes "schedule") refl i))
-        (option_and_then start_of (same (codes "start") refl i));
+      (option_and_then name_of (same (codes "client") refl i))
+      (option_and_then name_of (same (codes "policy") refl i))
+      (option_and_then name_of (same (codes "schedule") refl i))
+      (option_and_then start_of (same (codes "start") refl i));
   spells = λ words r fit is. backup_words _ _ _ _ r is ∙ (λ i.
       codes "bpbackup"
       ∷ words_with (
-          (codes "client", name_kept _ (fit (codes "client")) i)
-          ∷ (codes "policy", name_kept _ (fit (codes "policy")) i)
-          ∷ (codes "schedule", name_kept _ (fit (codes "schedule")) i)
-          ∷ (codes "start", start_kept _ (fit (codes "start")) i)
-          ∷ []));
+      (codes "client", name_kept _ (fit (codes "client")) i)
+      ∷ (codes "policy", name_kept _ (fit (codes "policy")) i)
+      ∷ (codes "schedule", name_kept _ (fit (codes "schedule")) i)
+      ∷ (codes "start", start_kept _ (fit (codes "start")) i)
+      ∷ []));
 }
 
 restore_words : (id : Option BackupId) (copy : Option ℕ) (r : Request) → restore_of id copy ≡ Some r → words_of r ≡ codes "bprestore" ∷ words_with ((codes "id", option_map id_text id) ∷ (codes "copy", option_map decimal copy) ∷ [])

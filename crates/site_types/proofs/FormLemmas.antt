@@ -2,7 +2,7 @@
 use Rattle.std.proofs.Common.{◌≡◌, ℕ, ◌+◌, List, [], ◌∷◌, ◌++◌, Bool, true, false, not, ◌&&◌, ◌||◌, if◌then◌else◌, Option, Some, None, unwrap_or, refl, sym, ap, ◌∙◌}
 use Rattle.std.specs.List.{list_all, list_any}
 use Rattle.std.specs.Str.{bytes_eq}
-use Rattle.std.proofs.lemmas.Bool.{and_parts, and_from, or_left, or_right, or_from, not_from_false, not-true, false_from_ne_true, true≢false, false≢true}
+use Rattle.std.proofs.lemmas.Bool.{and_from, or_left, or_right, or_from, not_from_false, not-true, false_from_ne_true, true≢false, false≢true}
 use Rattle.std.proofs.lemmas.List.Folds.{list_any-append}
 use Rattle.std.proofs.lemmas.Slice.Eq.{bytes_eq-Decides}
 use Rattle.site_types.specs.Keys.{Key, is_word, has_equals, key_of, value_of, allows, has_key, is_good, first_bad, value_among}
@@ -60,10 +60,10 @@ are_allowed keys earlier at (word ∷ words) none name value given =
     let here = passed (is_good keys earlier word) (first_bad keys (earlier ++ word ∷ []) (at + 1) words) at none in
     let parts = good_parts (is_word word) (has_equals word) (allows keys (key_of word) (value_of word)) (not (has_key (key_of word) earlier)) here.0 in
     found (bytes_eq (key_of word) name) (value_of word) value (value_among name words) _
-        (λ named is.
-            (sym (λ i. allows keys ((bytes_eq-Decides (key_of word) name).0 named i) (is i)) ∙ parts.2, sym (ap is_word is) ∙ is_word-value_of word parts.0))
-        (are_allowed keys (earlier ++ word ∷ []) (at + 1) words here.1 name value)
-        given
+    (λ named is.
+    (sym (λ i. allows keys ((bytes_eq-Decides (key_of word) name).0 named i) (is i)) ∙ parts.2, sym (ap is_word is) ∙ is_word-value_of word parts.0))
+    (are_allowed keys (earlier ++ word ∷ []) (at + 1) words here.1 name value)
+    given
 
 pub are_words : (keys : List Key) (earlier : List (List ℕ)) (at : ℕ) (words : List (List ℕ)) → first_bad keys earlier at words ≡ None → list_all is_word words ≡ true
 are_words keys earlier at [] none = refl
@@ -130,11 +130,11 @@ still_fresh k keys earlier value table fresh name has =
     let other : bytes_eq k.name name ≡ false = false_from_ne_true (bytes_eq k.name name) (λ named. true≢false (sym has ∙ ap (λ (n : List ℕ). has_name n keys) (sym ((bytes_eq-Decides k.name name).0 named)) ∙ not-true (has_name k.name keys) parts.1)) in
     list_any-append (λ w. bytes_eq (key_of w) name) earlier (word_with k.name value ∷ [])
     ∙ or_from (has_key name earlier) (has_key name (word_with k.name value ∷ [])) (fresh name (or_right (bytes_eq k.name name) (has_name name keys) has))
-        (or_from (bytes_eq (key_of (word_with k.name value)) name) false (ap (λ (n : List ℕ). bytes_eq n name) (key_of-word_with k.name value parts.0) ∙ other) refl)
+    (or_from (bytes_eq (key_of (word_with k.name value)) name) false (ap (λ (n : List ℕ). bytes_eq n name) (key_of-word_with k.name value parts.0) ∙ other) refl)
 
 -- none of these words is bad, where those before them give values to none of these keys
 abbrev AreGood : List Key → List Key → List (List ℕ) → Type 0
-AreGood table keys words = (earlier : List (List ℕ)) (at : ℕ) → AreFresh keys earlier → first_bad table earlier at (ordered keys words) ≡ None
+AreGood all keys words = (earlier : List (List ℕ)) (at : ℕ) → AreFresh keys earlier → first_bad all earlier at (ordered keys words) ≡ None
 
 good_with : (all : List Key) (k : Key) (keys : List Key) (words : List (List ℕ)) (given : Option (List ℕ)) → value_among k.name words ≡ given → is_table (k ∷ keys) ≡ true → AreAllowed all words → AreGood all keys words
     → (earlier : List (List ℕ)) (at : ℕ) → AreFresh (k ∷ keys) earlier → first_bad all earlier at (words_with ((k.name, given) ∷ fields_read keys words)) ≡ None

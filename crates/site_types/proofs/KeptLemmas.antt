@@ -1,5 +1,5 @@
 -- Values that were read, written again, are the texts that were read.
-use Rattle.std.proofs.Common.{◌≡◌, ℕ, List, Bool, true, if◌then◌else◌, Option, Some, None, option_map, is_some, refl, sym, ap, ◌∙◌}
+use Rattle.std.proofs.Common.{◌≡◌, ℕ, List, true, if◌then◌else◌, Option, Some, None, option_map, is_some, refl, ap, ◌∙◌}
 use Rattle.std.specs.Option.{option_and_then}
 use Rattle.std.specs.Fmt.{decimal}
 use Rattle.site_types.specs.CalendarTexts.{calendar_text}

@@ -1,5 +1,5 @@
 -- The forms with one name, with two names, and with a policy and a path are read again.
-use Rattle.std.proofs.Common.{◌≡◌, ℕ, List, [], ◌∷◌, ◌++◌, Bool, true, Option, Some, None, option_map, codes, refl, sym, ap, ◌∙◌}
+use Rattle.std.proofs.Common.{◌≡◌, ℕ, List, [], ◌∷◌, ◌++◌, true, Option, Some, None, option_map, codes, refl, sym, ap, ◌∙◌}
 use Rattle.std.specs.List.{list_all}
 use Rattle.std.specs.Option.{option_and_then}
 use Rattle.site_types.specs.Keys.{Key, value_among, name_of, allows, is_word}
@@ -67,9 +67,9 @@ pair_form request one two first rest table plain reads words ones twos = record 
   spells = λ read r fit is.
       pair_words request one two first rest words _ _ r is
       ∙ (λ i. (first ∷ rest) ++ words_with (
-          (one, name_kept (value_among one read) (λ t given. sym (ones.allowed t) ∙ fit one t given) i)
-          ∷ (two, name_kept (value_among two read) (λ t given. sym (twos.allowed t) ∙ fit two t given) i)
-          ∷ []));
+      (one, name_kept (value_among one read) (λ t given. sym (ones.allowed t) ∙ fit one t given) i)
+      ∷ (two, name_kept (value_among two read) (λ t given. sym (twos.allowed t) ∙ fit two t given) i)
+      ∷ []));
 }
 
 pub policy_client_add_form : IsForm (name_key (codes "policy") ∷ name_key (codes "client") ∷ []) 2 (pair_made PolicyClientAdd (codes "policy") (codes "client")) (codes "bppolicynew") (codes "client-add" ∷ [])

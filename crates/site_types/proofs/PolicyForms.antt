@@ -5,7 +5,7 @@ use Rattle.std.specs.Option.{option_and_then}
 use Rattle.std.specs.Fmt.{decimal}
 use Rattle.site_types.specs.CalendarTexts.{calendar_text}
 use Rattle.site_types.specs.Calendars.{calendar_of}
-use Rattle.site_types.specs.Keys.{value_among, name_of, is_word}
+use Rattle.site_types.specs.Keys.{name_of, is_word}
 use Rattle.site_types.specs.Lines.{words_of, words_with, schedule_fields}
 use Rattle.site_types.specs.Numbers.{number_between}
 use Rattle.site_types.specs.Requests.{policy_add_keys, policy_add_of, policy_add_made, policy_change_keys, policy_change_of, policy_change_made, schedule_keys, schedule_of, schedule_made, Scheduling, is_one, form_read, read_words}
@@ -36,17 +36,17 @@ policy_add_form = record {
   reads = λ words. refl;
   depends = λ words others same i.
       policy_add_of
-        (option_and_then name_of (same (codes "policy") refl i))
-        (option_and_then type_of (same (codes "type") refl i))
-        (option_and_then name_of (same (codes "lifecycle") refl i));
+      (option_and_then name_of (same (codes "policy") refl i))
+      (option_and_then type_of (same (codes "type") refl i))
+      (option_and_then name_of (same (codes "lifecycle") refl i));
   spells = λ words r fit is. policy_add_words _ _ _ r is ∙ (λ i.
       codes "bppolicynew"
       ∷ codes "add"
       ∷ words_with (
-          (codes "policy", name_kept _ (fit (codes "policy")) i)
-          ∷ (codes "type", type_kept _ (fit (codes "type")) i)
-          ∷ (codes "lifecycle", name_kept _ (fit (codes "lifecycle")) i)
-          ∷ []));
+      (codes "policy", name_kept _ (fit (codes "policy")) i)
+      ∷ (codes "type", type_kept _ (fit (codes "type")) i)
+      ∷ (codes "lifecycle", name_kept _ (fit (codes "lifecycle")) i)
+      ∷ []));
 }
 
 policy_change_words : (policy : Option (List ℕ)) (active : Option Bool) (lifecycle : Option (List ℕ)) (r : Request) → policy_change_of policy active lifecycle ≡ Some r
@@ -61,17 +61,17 @@ policy_change_form = record {
   reads = λ words. refl;
   depends = λ words others same i.
       policy_change_of
-        (option_and_then name_of (same (codes "policy") refl i))
-        (option_and_then yes_or_no (same (codes "active") refl i))
-        (option_and_then name_of (same (codes "lifecycle") refl i));
+      (option_and_then name_of (same (codes "policy") refl i))
+      (option_and_then yes_or_no (same (codes "active") refl i))
+      (option_and_then name_of (same (codes "lifecycle") refl i));
   spells = λ words r fit is. policy_change_words _ _ _ r is ∙ (λ i.
       codes "bppolicynew"
       ∷ codes "change"
       ∷ words_with (
-          (codes "policy", name_kept _ (fit (codes "policy")) i)
-          ∷ (codes "active", yes_or_no_kept _ (fit (codes "active")) i)
-          ∷ (codes "lifecycle", name_kept _ (fit (codes "lifecycle")) i)
-          ∷ []));
+      (codes "policy", name_kept _ (fit (codes "policy")) i)
+      ∷ (codes "active", yes_or_no_kept _ (fit (codes "active")) i)
+      ∷ (codes "lifecycle", name_kept _ (fit (codes "lifecycle")) i)
+      ∷ []));
 }
 
 schedule_words : (request : Scheduling) (first : List ℕ) (rest : List (List ℕ))
@@ -94,21 +94,21 @@ schedule_form request first rest plain reads words = record {
   reads = reads;
   depends = λ words others same i.
       schedule_of request
-        (option_and_then name_of (same (codes "policy") refl i))
-        (option_and_then name_of (same (codes "schedule") refl i))
-        (option_and_then kind_of (same (codes "kind") refl i))
-        (option_and_then (number_between 1 3153600000) (same (codes "frequency") refl i))
-        (option_and_then calendar_of (same (codes "calendar") refl i))
-        (option_and_then windows_of (same (codes "windows") refl i));
+      (option_and_then name_of (same (codes "policy") refl i))
+      (option_and_then name_of (same (codes "schedule") refl i))
+      (option_and_then kind_of (same (codes "kind") refl i))
+      (option_and_then (number_between 1 3153600000) (same (codes "frequency") refl i))
+      (option_and_then calendar_of (same (codes "calendar") refl i))
+      (option_and_then windows_of (same (codes "windows") refl i));
   spells = λ read r fit is. schedule_words request first rest words _ _ _ _ _ _ r is ∙ (λ i.
       (first ∷ rest) ++ words_with (
-          (codes "policy", name_kept _ (fit (codes "policy")) i)
-          ∷ (codes "schedule", name_kept _ (fit (codes "schedule")) i)
-          ∷ (codes "kind", kind_kept _ (fit (codes "kind")) i)
-          ∷ (codes "frequency", number_kept 1 3153600000 _ (fit (codes "frequency")) i)
-          ∷ (codes "calendar", calendar_kept _ (fit (codes "calendar")) i)
-          ∷ (codes "windows", windows_kept _ (fit (codes "windows")) i)
-          ∷ []));
+      (codes "policy", name_kept _ (fit (codes "policy")) i)
+      ∷ (codes "schedule", name_kept _ (fit (codes "schedule")) i)
+      ∷ (codes "kind", kind_kept _ (fit (codes "kind")) i)
+      ∷ (codes "frequency", number_kept 1 3153600000 _ (fit (codes "frequency")) i)
+      ∷ (codes "calendar", calendar_kept _ (fit (codes "calendar")) i)
+      ∷ (codes "windows", windows_kept _ (fit (codes "windows")) i)
+      ∷ []));
 }
 
 pub schedule_add_form : IsForm schedule_keys 2 (schedule_made ScheduleAdd) (codes "bpplsched") (codes "add" ∷ [])

@@ -1,14 +1,13 @@
 -- A form is read again from its words in the order of the keys, where its values are spelled in one way.
-use Rattle.std.proofs.Common.{◌≡◌, ℕ, ◌+◌, List, [], ◌∷◌, ◌++◌, length, Bool, true, false, ◌&&◌, if◌then◌else◌, Option, Some, None, option_map, unwrap_or, is_some, Result, Ok, Err, refl, sym, ap, ◌∙◌}
+use Rattle.std.proofs.Common.{◌≡◌, ℕ, ◌+◌, List, [], ◌∷◌, ◌++◌, length, Bool, true, false, if◌then◌else◌, Option, Some, None, Result, Ok, Err, refl, ap, ◌∙◌}
 use Rattle.std.specs.List.{list_all, join_with_byte, slice_split}
-use Rattle.std.specs.Option.{option_and_then}
 use Rattle.std.proofs.lemmas.List.Folds.{list_all-append}
 use Rattle.std.proofs.lemmas.Bool.{and_from}
-use Rattle.site_types.specs.Keys.{Key, is_word, allows, first_bad, value_among, among}
-use Rattle.site_types.specs.Lines.{is_space, words_of, line_of, IsFormed}
+use Rattle.site_types.specs.Keys.{Key, is_word, allows, first_bad, value_among}
+use Rattle.site_types.specs.Lines.{is_space, words_of, IsFormed}
 use Rattle.site_types.specs.Requests.{unless_bad, form_read, read_words}
 use Rattle.site_types.specs.declared.request.Request.{Request}
-use Rattle.site_types.proofs.FormLemmas.{has_name, is_table, ordered, AreAllowed, same_value, are_allowed, are_words, same_values, none_bad}
+use Rattle.site_types.proofs.FormLemmas.{has_name, is_table, ordered, same_value, are_allowed, are_words, same_values, none_bad}
 use Rattle.site_types.proofs.WordLemmas.{split_line}
 
 pub no_error : {P : Type 0} (index : ℕ) (r : Request) → Err index ≡ Ok r → P

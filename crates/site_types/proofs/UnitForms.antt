@@ -1,9 +1,8 @@
 -- The forms of units are read again.
-use Rattle.std.proofs.Common.{◌≡◌, ℕ, List, [], ◌∷◌, ◌++◌, Bool, true, nat_lt, Option, Some, None, option_map, unwrap_or, codes, refl, sym, ap, ◌∙◌}
-use Rattle.std.specs.List.{list_all}
+use Rattle.std.proofs.Common.{◌≡◌, ℕ, List, [], ◌∷◌, nat_lt, Option, Some, None, option_map, unwrap_or, codes, refl, sym, ap, ◌∙◌}
 use Rattle.std.specs.Option.{option_and_then}
 use Rattle.std.specs.Fmt.{decimal}
-use Rattle.site_types.specs.Keys.{value_among, name_of}
+use Rattle.site_types.specs.Keys.{name_of}
 use Rattle.site_types.specs.Lines.{words_of, words_with}
 use Rattle.site_types.specs.Numbers.{number_between}
 use Rattle.site_types.specs.Requests.{unit_add_keys, unit_add_of, unit_add_made, unit_change_keys, unit_change_of, unit_change_made, are_marks}
@@ -25,25 +24,25 @@ unit_add_form = record {
   reads = λ words. refl;
   depends = λ words others same i.
       unit_add_of
-        (option_and_then name_of (same (codes "name") refl i))
-        (option_and_then (number_between 1 1125899906842624) (same (codes "capacity") refl i))
-        (option_and_then (number_between 16 131072) (same (codes "segment") refl i))
-        (option_and_then (number_between 1 1048576) (same (codes "fragment") refl i))
-        (option_and_then (number_between 1 16777216) (same (codes "slots") refl i))
-        (option_and_then (number_between 1 100) (same (codes "high") refl i))
-        (option_and_then (number_between 0 99) (same (codes "low") refl i));
+      (option_and_then name_of (same (codes "name") refl i))
+      (option_and_then (number_between 1 1125899906842624) (same (codes "capacity") refl i))
+      (option_and_then (number_between 16 131072) (same (codes "segment") refl i))
+      (option_and_then (number_between 1 1048576) (same (codes "fragment") refl i))
+      (option_and_then (number_between 1 16777216) (same (codes "slots") refl i))
+      (option_and_then (number_between 1 100) (same (codes "high") refl i))
+      (option_and_then (number_between 0 99) (same (codes "low") refl i));
   spells = λ words r fit is. unit_add_words _ _ _ _ _ _ _ r is ∙ (λ i.
       codes "unit"
       ∷ codes "add"
       ∷ words_with (
-          (codes "name", name_kept _ (fit (codes "name")) i)
-          ∷ (codes "capacity", number_kept 1 1125899906842624 _ (fit (codes "capacity")) i)
-          ∷ (codes "segment", number_kept 16 131072 _ (fit (codes "segment")) i)
-          ∷ (codes "fragment", number_kept 1 1048576 _ (fit (codes "fragment")) i)
-          ∷ (codes "slots", number_kept 1 16777216 _ (fit (codes "slots")) i)
-          ∷ (codes "high", number_kept 1 100 _ (fit (codes "high")) i)
-          ∷ (codes "low", number_kept 0 99 _ (fit (codes "low")) i)
-          ∷ []));
+      (codes "name", name_kept _ (fit (codes "name")) i)
+      ∷ (codes "capacity", number_kept 1 1125899906842624 _ (fit (codes "capacity")) i)
+      ∷ (codes "segment", number_kept 16 131072 _ (fit (codes "segment")) i)
+      ∷ (codes "fragment", number_kept 1 1048576 _ (fit (codes "fragment")) i)
+      ∷ (codes "slots", number_kept 1 16777216 _ (fit (codes "slots")) i)
+      ∷ (codes "high", number_kept 1 100 _ (fit (codes "high")) i)
+      ∷ (codes "low", number_kept 0 99 _ (fit (codes "low")) i)
+      ∷ []));
 }
 
 unit_change_words : (name : Option (List ℕ)) (capacity slots high low : Option ℕ) (r : Request) → unit_change_of name capacity slots high low ≡ Some r
@@ -58,19 +57,19 @@ unit_change_form = record {
   reads = λ words. refl;
   depends = λ words others same i.
       unit_change_of
-        (option_and_then name_of (same (codes "name") refl i))
-        (option_and_then (number_between 1 1125899906842624) (same (codes "capacity") refl i))
-        (option_and_then (number_between 1 16777216) (same (codes "slots") refl i))
-        (option_and_then (number_between 1 100) (same (codes "high") refl i))
-        (option_and_then (number_between 0 99) (same (codes "low") refl i));
+      (option_and_then name_of (same (codes "name") refl i))
+      (option_and_then (number_between 1 1125899906842624) (same (codes "capacity") refl i))
+      (option_and_then (number_between 1 16777216) (same (codes "slots") refl i))
+      (option_and_then (number_between 1 100) (same (codes "high") refl i))
+      (option_and_then (number_between 0 99) (same (codes "low") refl i));
   spells = λ words r fit is. unit_change_words _ _ _ _ _ r is ∙ (λ i.
       codes "unit"
       ∷ codes "change"
       ∷ words_with (
-          (codes "name", name_kept _ (fit (codes "name")) i)
-          ∷ (codes "capacity", number_kept 1 1125899906842624 _ (fit (codes "capacity")) i)
-          ∷ (codes "slots", number_kept 1 16777216 _ (fit (codes "slots")) i)
-          ∷ (codes "high", number_kept 1 100 _ (fit (codes "high")) i)
-          ∷ (codes "low", number_kept 0 99 _ (fit (codes "low")) i)
-          ∷ []));
+      (codes "name", name_kept _ (fit (codes "name")) i)
+      ∷ (codes "capacity", number_kept 1 1125899906842624 _ (fit (codes "capacity")) i)
+      ∷ (codes "slots", number_kept 1 16777216 _ (fit (codes "slots")) i)
+      ∷ (codes "high", number_kept 1 100 _ (fit (codes "high")) i)
+      ∷ (codes "low", number_kept 0 99 _ (fit (codes "low")) i)
+      ∷ []));
 }

@@ -1,7 +1,7 @@
 -- Words: a key, an equals sign and a value, and lines of words that are joined by spaces.
-use Rattle.std.proofs.Common.{◌≡◌, ℕ, ◌+◌, zero, suc, List, [], ◌∷◌, ◌++◌, length, take, drop, Some, None, is_some, nat_lt, append_assoc, length-append, Bool, true, false, not, cond, ◌&&◌, ◌==◌, refl, sym, ap, ◌∙◌, codes, arith}
-use Rattle.std.specs.List.{All, list_all, position_or_len, prefix_len, join_with_byte, slice_split}
-use Rattle.std.proofs.lemmas.Bool.{and_parts, and_from, cond-true, not-true}
+use Rattle.std.proofs.Common.{◌≡◌, ℕ, ◌+◌, zero, suc, List, [], ◌∷◌, ◌++◌, length, take, drop, Some, None, is_some, nat_lt, append_assoc, length-append, Bool, true, false, not, cond, ◌&&◌, refl, ap, ◌∙◌, arith}
+use Rattle.std.specs.List.{All, list_all, position_or_len, join_with_byte, slice_split}
+use Rattle.std.proofs.lemmas.Bool.{and_parts, and_from, cond-true}
 use Rattle.std.proofs.lemmas.Bool.Decides.{nat_tests}
 use Rattle.std.proofs.lemmas.List.Elements.{All-nil, All-cons}
 use Rattle.std.proofs.lemmas.List.Folds.{list_all-append}
