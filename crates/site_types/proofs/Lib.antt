@@ -13,3 +13,12 @@ pub mod JoinedSpelling
 pub mod WindowSpelling
 pub mod CalendarSpelling
 pub mod SpellingLemmas
+pub mod WordLemmas
+pub mod FormLemmas
+pub mod RereadLemmas
+pub mod KeptLemmas
+pub mod UnitForms
+pub mod NameForms
+pub mod PolicyForms
+pub mod DeskForms
+pub mod Rereading
