@@ -15,15 +15,18 @@ mod limit;
 mod list;
 mod name;
 mod number;
+mod path_word;
 mod paths;
 mod request;
 mod schedule;
 mod text;
 mod unit;
+mod value_words;
 mod weekday;
 mod window;
 mod window_word;
 mod wording;
+mod zone_word;
 
 pub use answer::Answer;
 pub use calendar::{CalendarItem, Day};

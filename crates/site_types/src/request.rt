@@ -1,4 +1,6 @@
-use crate::{BackupId, CalendarItem, Kind, ListOf, Name, NoMemory, PolicyType, Start, Text, Windows};
+use crate::{
+    BackupId, CalendarItem, Kind, ListOf, Name, NoMemory, PolicyType, Start, Text, Windows,
+};
 use std::alloc::Global;
 
 /// A request, in the order of their table. A key that may be missing is an `Option`.
