@@ -107,12 +107,7 @@ fn has_key(words: &[Text], key: &[u8]) -> bool
     words.iter().any(|word| key_of(word.bytes()) == key)
 }
 
-fn allows(
-    alloc: Global,
-    keys: &[FormKey],
-    name: &[u8],
-    value: &[u8],
-) -> Result<bool, NoMemory>
+fn allows(alloc: Global, keys: &[FormKey], name: &[u8], value: &[u8]) -> Result<bool, NoMemory>
     ensures { IfOk result (λ b. b ≡ allows (map key_stated keys.now) name.now value.now) }
 {
     for key in keys {
@@ -123,12 +118,7 @@ fn allows(
     Ok(false)
 }
 
-fn is_good(
-    alloc: Global,
-    keys: &[FormKey],
-    earlier: &[Text],
-    word: &[u8],
-) -> Result<bool, NoMemory>
+fn is_good(alloc: Global, keys: &[FormKey], earlier: &[Text], word: &[u8]) -> Result<bool, NoMemory>
     ensures { IfOk result (λ b. b ≡ is_good (map key_stated keys.now) earlier.now word.now) }
 {
     if !is_word(word) || !has_equals(word) || has_key(earlier, key_of(word)) {

@@ -22,6 +22,7 @@ mod schedule;
 mod text;
 mod unit;
 mod value_words;
+mod values;
 mod weekday;
 mod window;
 mod window_word;
