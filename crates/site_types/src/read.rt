@@ -43,12 +43,15 @@ pub fn read_backup(alloc: Global, words: &[Text]) -> Result<Request, WordFault>
     let policy = name_among(alloc, words, b"policy")?;
     let schedule = name_among(alloc, words, b"schedule")?;
     let start = start_among(words, b"start");
-    let request = client.map(|client| Request::Backup {
-        client,
-        policy,
-        schedule,
-        start,
-    });
+    let request = match client {
+        Some(client) => Some(Request::Backup {
+            client,
+            policy,
+            schedule,
+            start,
+        }),
+        None => None,
+    };
     unless_bad(alloc, words, &[CLIENT, POLICY, SCHEDULE, START], 1, request)
 }
 

@@ -31,15 +31,23 @@ pub fn read_policy(alloc: Global, words: &[Text]) -> Result<Request, WordFault>
     let Some((action, words)) = words.split_first() else {
         return Err(WordFault::Bad { index: 1 });
     };
-    match action.bytes() {
-        b"add" => read_policy_add(alloc, words),
-        b"change" => read_policy_change(alloc, words),
-        b"remove" => read_policy_remove(alloc, words),
-        b"client-add" => read_client_add(alloc, words),
-        b"client-remove" => read_client_remove(alloc, words),
-        b"select" => read_select(alloc, words),
-        b"unselect" => read_unselect(alloc, words),
-        _ => Err(WordFault::Bad { index: 1 }),
+    let action = action.bytes();
+    if action == b"add".as_slice() {
+        read_policy_add(alloc, words)
+    } else if action == b"change".as_slice() {
+        read_policy_change(alloc, words)
+    } else if action == b"remove".as_slice() {
+        read_policy_remove(alloc, words)
+    } else if action == b"client-add".as_slice() {
+        read_client_add(alloc, words)
+    } else if action == b"client-remove".as_slice() {
+        read_client_remove(alloc, words)
+    } else if action == b"select".as_slice() {
+        read_select(alloc, words)
+    } else if action == b"unselect".as_slice() {
+        read_unselect(alloc, words)
+    } else {
+        Err(WordFault::Bad { index: 1 })
     }
 }
 
