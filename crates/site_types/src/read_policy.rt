@@ -99,9 +99,10 @@ fn read_client_add(alloc: Global, words: &[Text]) -> Result<Request, WordFault>
 {
     let policy = name_among(alloc, words, b"policy")?;
     let client = name_among(alloc, words, b"client")?;
-    let request = policy
-        .zip(client)
-        .map(|(policy, client)| Request::PolicyClientAdd { policy, client });
+    let request = policy.zip(client).map(|(policy, client)| Request::PolicyClientAdd {
+        policy,
+        client,
+    });
     unless_bad(alloc, words, &[POLICY, CLIENT], 2, request)
 }
 
@@ -111,9 +112,10 @@ fn read_client_remove(alloc: Global, words: &[Text]) -> Result<Request, WordFaul
 {
     let policy = name_among(alloc, words, b"policy")?;
     let client = name_among(alloc, words, b"client")?;
-    let request = policy
-        .zip(client)
-        .map(|(policy, client)| Request::PolicyClientRemove { policy, client });
+    let request = policy.zip(client).map(|(policy, client)| Request::PolicyClientRemove {
+        policy,
+        client,
+    });
     unless_bad(alloc, words, &[POLICY, CLIENT], 2, request)
 }
 

@@ -129,8 +129,9 @@ fn read_schedule_remove(alloc: Global, words: &[Text]) -> Result<Request, WordFa
 {
     let policy = name_among(alloc, words, b"policy")?;
     let schedule = name_among(alloc, words, b"schedule")?;
-    let request = policy
-        .zip(schedule)
-        .map(|(policy, schedule)| Request::ScheduleRemove { policy, schedule });
+    let request = policy.zip(schedule).map(|(policy, schedule)| Request::ScheduleRemove {
+        policy,
+        schedule,
+    });
     unless_bad(alloc, words, &[POLICY, SCHEDULE], 2, request)
 }

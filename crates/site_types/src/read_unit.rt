@@ -9,15 +9,22 @@ use crate::{NoMemory, Request, Text, WordFault};
 use std::alloc::Global;
 
 const MOST_CAPACITY: u64 = 1_125_899_906_842_624;
+
 const LEAST_SEGMENT: u32 = 16;
+
 const MOST_SEGMENT: u32 = 131_072;
+
 const MOST_FRAGMENT: u32 = 1_048_576;
+
 const MOST_SLOTS: u32 = 16_777_216;
+
 const GREATEST_HIGH: u8 = 100;
+
 const GREATEST_LOW: u8 = 99;
 
 // The marks of a unit that is added without them.
 const HIGH_MARK: u8 = 98;
+
 const LOW_MARK: u8 = 80;
 
 const CAPACITY: FormKey = FormKey {
@@ -69,6 +76,7 @@ const LOW: FormKey = FormKey {
 };
 
 const ADD_KEYS: [FormKey; 7] = [NAME, CAPACITY, SEGMENT, FRAGMENT, SLOTS, HIGH, LOW];
+
 const CHANGE_KEYS: [FormKey; 5] = [NAME, CAPACITY, SLOTS, HIGH, LOW];
 
 pub fn read_unit(alloc: Global, words: &[Text]) -> Result<Request, WordFault>

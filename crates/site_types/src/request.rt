@@ -1,3 +1,4 @@
+use crate::read::read_form;
 use crate::{
     BackupId, CalendarItem, Kind, ListOf, Name, NoMemory, PolicyType, Start, Text, Windows,
 };
@@ -135,9 +136,7 @@ impl Request {
         ensures within { IsWithin result (length words.now) }
         ensures formed { IfOk result IsFormed }
     {
-        let _ = alloc;
-        let _ = words;
-        Err(WordFault::NoMemory)
+        read_form(alloc, words)
     }
 
     /// Its line may name a payload.
