@@ -1,4 +1,7 @@
-use crate::{BackupId, CalendarItem, Kind, ListOf, Name, NoMemory, PolicyType, Start, Text, Windows};
+use crate::read::read_form;
+use crate::{
+    BackupId, CalendarItem, Kind, ListOf, Name, NoMemory, PolicyType, Start, Text, Windows,
+};
 use std::alloc::Global;
 
 /// A request, in the order of their table. A key that may be missing is an `Option`.
@@ -133,9 +136,7 @@ impl Request {
         ensures within { IsWithin result (length words.now) }
         ensures formed { IfOk result IsFormed }
     {
-        let _ = alloc;
-        let _ = words;
-        Err(WordFault::NoMemory)
+        read_form(alloc, words)
     }
 
     /// Its line may name a payload.

@@ -1,0 +1,6 @@
+use Rattle.std.proofs.Common.{◌≡◌, map, drop}
+use Rattle.site_types.specs.Keys.{allows, key_stated}
+use Rattle.site_types.proofs.keys.allows.Given as goal
+
+abbrev pub invariant-loop-key : goal.invariant-loop-key
+invariant-loop-key l = allows (map key_stated (drop l.key-index l.keys)) l.name l.value ≡ allows (map key_stated l.keys) l.name l.value
