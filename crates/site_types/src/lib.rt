@@ -3,25 +3,32 @@
 
 mod answer;
 mod calendar;
+mod calendar_text;
 mod calendar_word;
 mod copies;
 mod digits;
+mod digits_text;
 mod due;
 mod id;
 mod image;
+mod joined_text;
 mod keys;
 mod lifecycle;
 mod limit;
 mod list;
 mod name;
 mod number;
+mod offset_text;
 mod paths;
 mod request;
 mod schedule;
 mod text;
 mod unit;
+mod value_text;
 mod weekday;
+mod weekday_text;
 mod window;
+mod window_text;
 mod window_word;
 mod wording;
 
