@@ -4,3 +4,4 @@ pub mod DigitLemmas
 pub mod WindowLemmas
 pub mod JoinedLemmas
 pub mod NumberLemmas
+pub mod JoinedTextLemmas
