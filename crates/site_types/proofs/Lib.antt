@@ -5,3 +5,4 @@ pub mod WindowLemmas
 pub mod JoinedLemmas
 pub mod NumberLemmas
 pub mod JoinedTextLemmas
+pub mod LineLemmas

@@ -1,4 +1,7 @@
-use crate::{BackupId, CalendarItem, Kind, ListOf, Name, NoMemory, PolicyType, Start, Text, Windows};
+use crate::line::Line;
+use crate::{
+    BackupId, CalendarItem, Kind, ListOf, Name, NoMemory, PolicyType, Start, Text, Windows,
+};
 use std::alloc::Global;
 
 /// A request, in the order of their table. A key that may be missing is an `Option`.
@@ -147,12 +150,13 @@ impl Request {
 
     /// Appends its words, joined by single spaces, with the keys in the order of their table. Where the request is formed, `read`
     /// of these words gives it again. Without memory `out` is left as it was.
+    #[tactic(auto, using(crate::proofs::LineLemmas::line_parts))]
     pub fn write_line(&self, alloc: Global, out: &mut Vec<u8>) -> Result<(), NoMemory>
         ensures written { OnOk result (out.new.items ≡ out.old.items ++ line_of self.now) }
         ensures unchanged { OnErr result (out.new.items ≡ out.old.items) }
     {
-        let _ = alloc;
-        let _ = out;
-        Err(std::alloc::AllocError)
+        let form = Line::new(alloc, self.form())?;
+        let line = self.fields(alloc, form)?;
+        out.extend_from_slice(line.text())
     }
 }
