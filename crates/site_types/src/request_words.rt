@@ -193,3 +193,60 @@ impl Line {
             .windows(b"windows", windows)
     }
 }
+
+#[cfg(test)]
+mod tests {
+    use super::*;
+    use crate::{Day, Window};
+    use std::process::Abort;
+    use std::test::*;
+
+    fn name(rt: &(impl Abort + Alloc<A = Global>), text: &[u8]) -> Result<Name, NoMemory> {
+        Ok(Name::new(rt.alloc(), text)?.expect(rt, "a name"))
+    }
+
+    fn unit(rt: &(impl Abort + Alloc<A = Global>)) -> Result<Request, NoMemory> {
+        Ok(Request::UnitAdd {
+            name: name(rt, b"u1")?,
+            capacity: 1_073_741_824,
+            segment: Some(1024),
+            fragment: None,
+            slots: None,
+            high: None,
+            low: Some(50),
+        })
+    }
+
+    fn schedule(rt: &(impl Abort + Alloc<A = Global>)) -> Result<Request, NoMemory> {
+        let items = vec![in rt.alloc();
+            CalendarItem::Weekday { week: 5, day: 5 },
+            CalendarItem::MonthDay(0),
+            CalendarItem::Exclude(Day::new(2026, 12, 5).expect(rt, "a day")),
+        ]?;
+        let windows = vec![in rt.alloc();
+            Window::new(5, 72_000, 36_000).expect(rt, "a window"),
+            Window::new(0, 3_723, 60).expect(rt, "a window"),
+        ]?;
+        Ok(Request::ScheduleAdd {
+            policy: name(rt, b"mail")?,
+            schedule: name(rt, b"weekly")?,
+            kind: Kind::Differential,
+            frequency: None,
+            calendar: Some(ListOf::from_vec(items)),
+            windows: Windows::Listed(ListOf::from_vec(windows)),
+        })
+    }
+
+    #[test]
+    fn lines_are_as_an_administrator_types_them(rt: HostRuntime) -> Result<(), Fail> {
+        let mut out = b"".to_vec(rt.alloc())?;
+        unit(&rt)?.write_line(rt.alloc(), &mut out)?;
+        out.push(b'\n')?;
+        schedule(&rt)?.write_line(rt.alloc(), &mut out)?;
+        let typed = b"unit add name=u1 capacity=1073741824 segment=1024 low=50\n\
+            bpplsched add policy=mail schedule=weekly kind=diff calendar=wLfri+mL+x2026-12-05 \
+            windows=fri/20:00:00/36000+sun/01:02:03/60";
+        assert_eq!(rt; out.as_slice(), typed.as_slice());
+        Ok(())
+    }
+}
