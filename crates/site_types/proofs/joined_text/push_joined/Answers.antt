@@ -1,4 +1,4 @@
-use Rattle.std.proofs.Common.{rules, arith, ◌≡◌, ◌∷◌, length, take}
+use Rattle.std.proofs.Common.{rules, arith, ◌≡◌, ◌∷◌}
 use Rattle.site_types.proofs.JoinedTextLemmas.{all_joined}
 use Rattle.site_types.proofs.joined_text.push_joined.Goals as goal
 

@@ -1,4 +1,4 @@
-use Rattle.std.proofs.Common.{rules, arith}
+use Rattle.std.proofs.Common.{arith}
 use Rattle.site_types.proofs.LineLemmas.{appends}
 use Rattle.site_types.proofs.request.Request.fields.Goals as goal
 
