@@ -46,7 +46,7 @@ day_spelled t d is =
 week_digit : (c week : ℕ) → 48 ≤ c → c ≤ 52 → c - 48 ≡ week → week_text week ≡ c
 week_digit c week low high is = at (week == 5) refl
   where
-    at : (b : Bool) → (week == 5) ≡ b → (if b then 76 else 48 + week) ≡ c
+    at : (b : Bool) → (week == 5) ≡ b → (if b then 76 else 48 + week % 10) ≡ c
     at true last = let five = eqb-true week 5 last in absurd (omega arith)
     at false other = omega arith
 

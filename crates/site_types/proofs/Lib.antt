@@ -22,3 +22,5 @@ pub mod NameForms
 pub mod PolicyForms
 pub mod DeskForms
 pub mod Rereading
+pub mod JoinedTextLemmas
+pub mod LineLemmas

@@ -39,7 +39,7 @@ digit_below c is = let le = leb-true c 57 (and_parts (nat_le 48 c) (nat_le c 57)
 two : (a b x y : ℕ) → x + 48 ≡ a → y + 48 ≡ b → x < 10 → y < 10 → two_digits ((0 * 10 + x) * 10 + y) ≡ a ∷ b ∷ []
 two a b x y p q r s =
     let n = (0 * 10 + x) * 10 + y in
-    let tens : 48 + n / 10 ≡ a = omega arith in
+    let tens : 48 + n / 10 % 10 ≡ a = omega arith in
     let ones : 48 + n % 10 ≡ b = omega arith in
     ap₂ (λ (c : ℕ) (d : ℕ). c ∷ d ∷ []) tens ones
 

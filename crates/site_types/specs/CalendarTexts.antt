@@ -16,7 +16,7 @@ day_text d = four_digits d.year ++ codes "-" ++ two_digits d.month ++ codes "-" 
 
 -- 0 to 4, and L for the last, which is 5
 abbrev pub week_text : ℕ → ℕ
-week_text week = if week == 5 then 76 else 48 + week
+week_text week = if week == 5 then 76 else 48 + week % 10
 
 -- the last day of a month is 0
 abbrev pub month_day_text : ℕ → List ℕ

@@ -17,3 +17,4 @@ pub mod Answers
 pub mod Keys
 pub mod Requests
 pub mod Lines
+pub mod LineTexts

@@ -17,8 +17,9 @@ signed sign seconds = if sign == 43 then Some (pos seconds) else (if sign == 45 
 abbrev pub offset_of : List ℕ → Option ℤ
 offset_of text = if length text == 6 && slice_index text 3 == 58 then option_and_then (λ hours. option_and_then (λ minutes. option_and_then (signed (slice_index text 0)) (seconds_of hours minutes)) (digits_of 2 (drop 4 text))) (digits_of 2 (slice_range text 1 3)) else None
 
+-- the last two digits of a number
 abbrev pub two_digits : ℕ → List ℕ
-two_digits number = (48 + number / 10) ∷ (48 + number % 10) ∷ []
+two_digits number = (48 + number / 10 % 10) ∷ (48 + number % 10) ∷ []
 
 abbrev pub sign_of : ℤ → ℕ
 sign_of (pos n) = 43

@@ -1,3 +1,4 @@
+use crate::line::Line;
 use crate::read::read_form;
 use crate::{
     BackupId, CalendarItem, Kind, ListOf, Name, NoMemory, PolicyType, Start, Text, Windows,
@@ -131,6 +132,7 @@ impl Request {
     ghost use Rattle.site_types.specs.Lines.{IsFormed, line_of};
 
     /// The request that these words ask for.
+    #[tactic(auto, using(crate::proofs::Rereading::reread))]
     pub fn read(alloc: Global, words: &[Text]) -> Result<Request, WordFault>
         ensures reading { IsReading result (read_words words.now) }
         ensures within { IsWithin result (length words.now) }
@@ -148,12 +150,13 @@ impl Request {
 
     /// Appends its words, joined by single spaces, with the keys in the order of their table. Where the request is formed, `read`
     /// of these words gives it again. Without memory `out` is left as it was.
+    #[tactic(auto, using(crate::proofs::LineLemmas::line_parts))]
     pub fn write_line(&self, alloc: Global, out: &mut Vec<u8>) -> Result<(), NoMemory>
         ensures written { OnOk result (out.new.items ≡ out.old.items ++ line_of self.now) }
         ensures unchanged { OnErr result (out.new.items ≡ out.old.items) }
     {
-        let _ = alloc;
-        let _ = out;
-        Err(std::alloc::AllocError)
+        let form = Line::new(alloc, self.form())?;
+        let line = self.fields(alloc, form)?;
+        out.extend_from_slice(line.text())
     }
 }

@@ -8,7 +8,7 @@ use crate::{BackupId, NoMemory};
 use itoa::Buffer;
 use std::alloc::Global;
 
-fn push_number(text: &mut Vec<u8>, number: u64) -> Result<(), NoMemory>
+pub fn push_number(text: &mut Vec<u8>, number: u64) -> Result<(), NoMemory>
     ensures { OnOk result (text.new.items ≡ text.old.items ++ decimal number) }
 {
     text.extend_from_slice(Buffer::new().format(number).as_bytes())
