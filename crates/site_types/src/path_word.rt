@@ -1,7 +1,7 @@
 // Reading paths.
-ghost use Rattle.std.specs.Prelude.{◌≡◌, ◌<◌, ◌∷◌, length, IfOk, IfSome, MatchOption, []};
+ghost use Rattle.std.specs.Prelude.{◌≡◌, ◌<◌, ◌∷◌, length, IfOk, MatchOption, []};
 ghost use Rattle.std.specs.List.{list_all};
-ghost use Rattle.site_types.specs.Paths.{is_path_byte, begins_with_slash, is_path, hex_value, byte_of, unwritten, path_of};
+ghost use Rattle.site_types.specs.Paths.{is_path_byte, is_path, hex_value, byte_of, unwritten, path_of};
 
 use crate::paths::written_path;
 use crate::{NoMemory, Text};

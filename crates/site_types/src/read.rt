@@ -33,6 +33,10 @@ const COPY: FormKey = FormKey {
     },
 };
 
+const BACKUP_KEYS: [FormKey; 4] = [CLIENT, POLICY, SCHEDULE, START];
+
+const RESTORE_KEYS: [FormKey; 2] = [ID, COPY];
+
 // The request that words ask for, by the form, which is their first.
 pub fn read_form(alloc: Global, words: &[Text]) -> Result<Request, WordFault>
     ensures reading { IsReading result (read_words words.now) }
@@ -75,7 +79,7 @@ fn read_backup(alloc: Global, words: &[Text]) -> Result<Request, WordFault>
     ensures within { IsWithin result (1 + length words.now) }
 {
     let request = backup_made(alloc, words)?;
-    unless_bad(alloc, words, &[CLIENT, POLICY, SCHEDULE, START], 1, request)
+    unless_bad(alloc, words, &BACKUP_KEYS, 1, request)
 }
 
 fn backup_made(alloc: Global, words: &[Text]) -> Result<Option<Request>, NoMemory>
@@ -99,5 +103,83 @@ fn read_restore(alloc: Global, words: &[Text]) -> Result<Request, WordFault>
     let id = id_among(alloc, words, b"id")?;
     let copy = u8_among(words, b"copy", 1, MOST_COPIES);
     let request = id.map(|id| Request::Restore { id, copy });
-    unless_bad(alloc, words, &[ID, COPY], 1, request)
+    unless_bad(alloc, words, &RESTORE_KEYS, 1, request)
+}
+
+#[cfg(test)]
+mod tests {
+    use super::*;
+    use std::test::*;
+
+    // Lines, and the indexes of their bad words, where they are no request.
+    const LINES: [(&str, Option<u64>); 30] = [
+        (
+            "unit add name=t capacity=100 segment=16 fragment=1 slots=9 high=80 low=40",
+            None,
+        ),
+        ("unit add name=t capacity=100 high=80", Some(5)),
+        ("unit change name=t", None),
+        ("unit change name=t high=80", Some(4)),
+        ("client add name=a", None),
+        ("client remove name=a", None),
+        ("client rename name=a", Some(1)),
+        ("client", Some(1)),
+        ("bppolicynew add policy=p type=raw lifecycle=basic", None),
+        ("bppolicynew change policy=p active=no", None),
+        ("bppolicynew remove policy=p", None),
+        ("bppolicynew client-add policy=p client=a", None),
+        ("bppolicynew client-remove policy=p client=a", None),
+        ("bppolicynew select policy=p path=/a%20b%25", None),
+        ("bppolicynew select policy=p path=/a%2F", Some(3)),
+        ("bppolicynew unselect policy=p path=/%C3%A9", None),
+        (
+            "bpplsched add policy=p schedule=s kind=full frequency=1 windows=none",
+            None,
+        ),
+        (
+            "bpplsched add policy=p schedule=s kind=full calendar=mL windows=none",
+            None,
+        ),
+        (
+            "bpplsched add policy=p schedule=s kind=full frequency=1 calendar=mL windows=none",
+            Some(8),
+        ),
+        (
+            "bpplsched change policy=p schedule=s kind=cumul frequency=1 windows=always",
+            None,
+        ),
+        ("bpplsched remove policy=p schedule=s", None),
+        ("bpzone set rule=CET-1CEST,M3.5.0,M10.5.0/3", None),
+        ("bpzone set offset=-23:59", None),
+        ("bpload", None),
+        (
+            "bpbackup client=a policy=p schedule=s start=scheduled",
+            None,
+        ),
+        ("bpbackup client=a client=a", Some(2)),
+        ("bpbackup", Some(1)),
+        ("bprestore copy=32 id=a_1", None),
+        ("bprestore id=a_1 copy=33", Some(2)),
+        ("frobnicate", Some(0)),
+    ];
+
+    fn bad_index(alloc: Global, line: &str) -> Result<Option<u64>, Fail> {
+        let mut words = Vec::new(alloc);
+        for word in line.split(' ') {
+            words.push(Text::new(alloc, word.as_bytes())?)?;
+        }
+        match read_form(alloc, &words) {
+            Ok(_) => Ok(None),
+            Err(WordFault::Bad { index }) => Ok(Some(index)),
+            Err(WordFault::NoMemory) => Err(std::alloc::AllocError.into()),
+        }
+    }
+
+    #[test]
+    fn lines_are_requests_or_bad_at_a_word(rt: HostRuntime) -> Result<(), Fail> {
+        for (line, wanted) in LINES {
+            assert_eq!(rt; bad_index(rt.alloc(), line)?, wanted, "at {line}");
+        }
+        Ok(())
+    }
 }

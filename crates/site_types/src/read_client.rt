@@ -4,9 +4,12 @@ ghost use Rattle.site_types.specs.declared.request.Request.TheVariants.{ClientAd
 ghost use Rattle.site_types.specs.Requests.{IsReading, IsWithin, read_client, read_named};
 
 use crate::form::{NAME, unless_bad};
+use crate::keys::FormKey;
 use crate::values::name_among;
 use crate::{Request, Text, WordFault};
 use std::alloc::Global;
+
+const CLIENT_KEYS: [FormKey; 1] = [NAME];
 
 pub fn read_client(alloc: Global, words: &[Text]) -> Result<Request, WordFault>
     ensures reading { IsReading result (read_client words.now) }
@@ -28,7 +31,7 @@ fn read_client_add(alloc: Global, words: &[Text]) -> Result<Request, WordFault>
 {
     let name = name_among(alloc, words, b"name")?;
     let request = name.map(|name| Request::ClientAdd { name });
-    unless_bad(alloc, words, &[NAME], 2, request)
+    unless_bad(alloc, words, &CLIENT_KEYS, 2, request)
 }
 
 fn read_client_remove(alloc: Global, words: &[Text]) -> Result<Request, WordFault>
@@ -37,5 +40,5 @@ fn read_client_remove(alloc: Global, words: &[Text]) -> Result<Request, WordFaul
 {
     let name = name_among(alloc, words, b"name")?;
     let request = name.map(|name| Request::ClientRemove { name });
-    unless_bad(alloc, words, &[NAME], 2, request)
+    unless_bad(alloc, words, &CLIENT_KEYS, 2, request)
 }

@@ -1,5 +1,5 @@
 // Reading the forms of policies.
-ghost use Rattle.std.specs.Prelude.{◌≡◌, ◌+◌, length, codes, IfOk};
+ghost use Rattle.std.specs.Prelude.{◌+◌, length, codes};
 ghost use Rattle.site_types.specs.declared.request.Request.TheVariants.{PolicyRemove, PolicyClientAdd, PolicyClientRemove, PolicySelect, PolicyUnselect};
 ghost use Rattle.site_types.specs.Requests.{IsReading, IsWithin, read_policy, read_policy_add, read_policy_change, read_named, read_pair, read_selection};
 
@@ -23,6 +23,16 @@ const PATH: FormKey = FormKey {
     name: b"path",
     grammar: Grammar::Path,
 };
+
+const ADD_KEYS: [FormKey; 3] = [POLICY, TYPE, LIFECYCLE];
+
+const CHANGE_KEYS: [FormKey; 3] = [POLICY, ACTIVE, LIFECYCLE];
+
+const REMOVE_KEYS: [FormKey; 1] = [POLICY];
+
+const CLIENT_KEYS: [FormKey; 2] = [POLICY, CLIENT];
+
+const SELECTION_KEYS: [FormKey; 2] = [POLICY, PATH];
 
 pub fn read_policy(alloc: Global, words: &[Text]) -> Result<Request, WordFault>
     ensures reading { IsReading result (read_policy words.now) }
@@ -66,7 +76,7 @@ fn read_policy_add(alloc: Global, words: &[Text]) -> Result<Request, WordFault>
         }),
         _ => None,
     };
-    unless_bad(alloc, words, &[POLICY, TYPE, LIFECYCLE], 2, request)
+    unless_bad(alloc, words, &ADD_KEYS, 2, request)
 }
 
 fn read_policy_change(alloc: Global, words: &[Text]) -> Result<Request, WordFault>
@@ -81,7 +91,7 @@ fn read_policy_change(alloc: Global, words: &[Text]) -> Result<Request, WordFaul
         active,
         lifecycle,
     });
-    unless_bad(alloc, words, &[POLICY, ACTIVE, LIFECYCLE], 2, request)
+    unless_bad(alloc, words, &CHANGE_KEYS, 2, request)
 }
 
 fn read_policy_remove(alloc: Global, words: &[Text]) -> Result<Request, WordFault>
@@ -90,7 +100,7 @@ fn read_policy_remove(alloc: Global, words: &[Text]) -> Result<Request, WordFaul
 {
     let policy = name_among(alloc, words, b"policy")?;
     let request = policy.map(|policy| Request::PolicyRemove { policy });
-    unless_bad(alloc, words, &[POLICY], 2, request)
+    unless_bad(alloc, words, &REMOVE_KEYS, 2, request)
 }
 
 fn read_client_add(alloc: Global, words: &[Text]) -> Result<Request, WordFault>
@@ -103,7 +113,7 @@ fn read_client_add(alloc: Global, words: &[Text]) -> Result<Request, WordFault>
         policy,
         client,
     });
-    unless_bad(alloc, words, &[POLICY, CLIENT], 2, request)
+    unless_bad(alloc, words, &CLIENT_KEYS, 2, request)
 }
 
 fn read_client_remove(alloc: Global, words: &[Text]) -> Result<Request, WordFault>
@@ -116,7 +126,7 @@ fn read_client_remove(alloc: Global, words: &[Text]) -> Result<Request, WordFaul
         policy,
         client,
     });
-    unless_bad(alloc, words, &[POLICY, CLIENT], 2, request)
+    unless_bad(alloc, words, &CLIENT_KEYS, 2, request)
 }
 
 fn read_select(alloc: Global, words: &[Text]) -> Result<Request, WordFault>
@@ -128,7 +138,7 @@ fn read_select(alloc: Global, words: &[Text]) -> Result<Request, WordFault>
     let request = policy
         .zip(path)
         .map(|(policy, path)| Request::PolicySelect { policy, path });
-    unless_bad(alloc, words, &[POLICY, PATH], 2, request)
+    unless_bad(alloc, words, &SELECTION_KEYS, 2, request)
 }
 
 fn read_unselect(alloc: Global, words: &[Text]) -> Result<Request, WordFault>
@@ -140,5 +150,5 @@ fn read_unselect(alloc: Global, words: &[Text]) -> Result<Request, WordFault>
     let request = policy
         .zip(path)
         .map(|(policy, path)| Request::PolicyUnselect { policy, path });
-    unless_bad(alloc, words, &[POLICY, PATH], 2, request)
+    unless_bad(alloc, words, &SELECTION_KEYS, 2, request)
 }

@@ -34,7 +34,9 @@ const WINDOWS: FormKey = FormKey {
     grammar: Grammar::Windows,
 };
 
-const KEYS: [FormKey; 6] = [POLICY, SCHEDULE, KIND, FREQUENCY, CALENDAR, WINDOWS];
+const SCHEDULE_KEYS: [FormKey; 6] = [POLICY, SCHEDULE, KIND, FREQUENCY, CALENDAR, WINDOWS];
+
+const REMOVE_KEYS: [FormKey; 2] = [POLICY, SCHEDULE];
 
 pub fn read_schedules(alloc: Global, words: &[Text]) -> Result<Request, WordFault>
     ensures reading { IsReading result (read_schedules words.now) }
@@ -105,7 +107,7 @@ fn read_schedule_add(alloc: Global, words: &[Text]) -> Result<Request, WordFault
         calendar: given.calendar,
         windows: given.windows,
     });
-    unless_bad(alloc, words, &KEYS, 2, request)
+    unless_bad(alloc, words, &SCHEDULE_KEYS, 2, request)
 }
 
 fn read_schedule_change(alloc: Global, words: &[Text]) -> Result<Request, WordFault>
@@ -120,7 +122,7 @@ fn read_schedule_change(alloc: Global, words: &[Text]) -> Result<Request, WordFa
         calendar: given.calendar,
         windows: given.windows,
     });
-    unless_bad(alloc, words, &KEYS, 2, request)
+    unless_bad(alloc, words, &SCHEDULE_KEYS, 2, request)
 }
 
 fn read_schedule_remove(alloc: Global, words: &[Text]) -> Result<Request, WordFault>
@@ -133,5 +135,5 @@ fn read_schedule_remove(alloc: Global, words: &[Text]) -> Result<Request, WordFa
         policy,
         schedule,
     });
-    unless_bad(alloc, words, &[POLICY, SCHEDULE], 2, request)
+    unless_bad(alloc, words, &REMOVE_KEYS, 2, request)
 }

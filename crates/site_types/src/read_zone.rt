@@ -18,6 +18,8 @@ const OFFSET: FormKey = FormKey {
     grammar: Grammar::Offset,
 };
 
+const ZONE_KEYS: [FormKey; 2] = [RULE, OFFSET];
+
 pub fn read_zone(alloc: Global, words: &[Text]) -> Result<Request, WordFault>
     ensures reading { IsReading result (read_zone words.now) }
     ensures within { IsWithin result (1 + length words.now) }
@@ -37,7 +39,7 @@ fn read_zone_set(alloc: Global, words: &[Text]) -> Result<Request, WordFault>
 {
     let rule = rule_among(alloc, words, b"rule")?;
     let offset = offset_among(words, b"offset");
-    unless_bad(alloc, words, &[RULE, OFFSET], 2, zone_of(rule, offset))
+    unless_bad(alloc, words, &ZONE_KEYS, 2, zone_of(rule, offset))
 }
 
 // One of the two is given.

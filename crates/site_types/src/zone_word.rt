@@ -1,6 +1,5 @@
 // Reading zones.
 ghost use Rattle.std.specs.Prelude.{◌≡◌, ◌<◌, IfOk, IfSome, is_some};
-ghost use Rattle.jiff_tz.specs.PosixReader.{read_whole};
 ghost use Rattle.site_types.specs.ZoneWords.{seconds_of, signed, offset_of, rule_of};
 
 use crate::digits::read_digits;
