@@ -1,13 +1,14 @@
 -- An image more, or one less.
 use Rattle.std.proofs.Common.{◌≡◌, ◌<◌, ◌≤◌, ◌+◌, ◌&&◌, eq-eqb, ℕ, zero, suc, List, [], ◌∷◌, ◌++◌, length, get_or, take, drop, Bool, true, false, cond, Option, Some, None, refl, sym, ◌∙◌, ap, subst, arith}
-use Rattle.std.specs.Prelude.{insert, not, filter}
+use Rattle.std.specs.Prelude.{insert, not}
 use Rattle.std.specs.List.{HoldsAt, remove}
-use Rattle.std.specs.Ordering.{is_lt, is_eq}
+use Rattle.std.specs.Ordering.{is_lt}
 use Rattle.std.specs.declared.cmp.Ordering.{Ordering}
 use Rattle.std.specs.declared.cmp.Ordering.TheVariants.{Less, Equal, Greater}
 use Rattle.std.proofs.lemmas.Bool.{false≢true}
 use Rattle.std.proofs.lemmas.Option.{none-some}
 use Rattle.std.proofs.lemmas.Slice.Eq.{bytes_eq-Decides}
+use Rattle.std.proofs.Math.Seq.{take-append_seam}
 use Rattle.std.proofs.lemmas.List.Kept.{AllPairs-filter}
 use Rattle.site_types.specs.declared.id.BackupId.{BackupId}
 use Rattle.site_types.specs.declared.image.ImageRecord.{ImageRecord}
@@ -15,7 +16,7 @@ use Rattle.image_catalogue.specs.Images.{same_id, is_before, with_record, record
 use Rattle.image_catalogue.specs.declared.unit_bytes.UnitBytes.{UnitBytes}
 use Rattle.image_catalogue.specs.Counts.{recorded, Counts}
 use Rattle.image_catalogue.specs.Places.{id_cmp, StandsAt, LacksAt}
-use Rattle.image_catalogue.proofs.PlaceLemmas.{ids_total, tied_same, alike, unlike_less, unlike_greater, turned, IsAfter, first_before, rest_by_id, cons_by_id, lower, exact_ids, lacks_as, stands_as, unnamed_at}
+use Rattle.image_catalogue.proofs.PlaceLemmas.{ids_total, alike, unlike_less, unlike_greater, turned, IsAfter, first_before, rest_by_id, cons_by_id, lower, exact_ids, lacks_as, stands_as, unnamed_at}
 
 -- An id that no image has.
 
@@ -151,3 +152,27 @@ used_as value after new added unit = ap (used unit) added ∙ used_with unit val
 pub counts_added : (entries seen counted : List UnitBytes) (xs value after : List ImageRecord) (new : ImageRecord) → xs ≡ value → after ≡ with_record new value → Counts entries xs → seen ≡ entries → ((unit : List ℕ) → recorded unit counted ≡ bytes_on unit new.length new.copies + recorded unit seen) → Counts counted after
 counts_added entries seen counted xs value after new viewed added counts listed raised unit =
     omega (arith, raised unit, ap (recorded unit) listed, counts unit, ap (used unit) viewed, used_as value after new added unit)
+
+pub removed_as : (xs seen value after : List ImageRecord) (id : BackupId) (i : ℕ) → AreById xs → seen ≡ xs → xs ≡ value → StandsAt seen id i → after ≡ remove xs i → after ≡ without_record id value
+removed_as xs seen value after id i by_id listed viewed stands made =
+    made ∙ sym (without_at xs id i by_id (stands_as xs seen id i listed stands)) ∙ ap (without_record id) viewed
+
+pub lacking_as : (xs seen value : List ImageRecord) (id : BackupId) (i : ℕ) → seen ≡ xs → xs ≡ value → LacksAt seen id i → value ≡ without_record id value
+lacking_as xs seen value id i listed viewed lacks = sym (without_lacking value id i (lacks_as value seen id i (listed ∙ viewed) lacks))
+
+pub left_by_id : (xs value after : List ImageRecord) (id : BackupId) → xs ≡ value → after ≡ without_record id value → AreById xs → AreById after
+left_by_id xs value after id viewed removed by_id = subst AreById (sym removed) (without_by_id value id (subst AreById viewed by_id))
+
+pub counted_as : (entries seen : List UnitBytes) (xs : List ImageRecord) (i : ℕ) (old : ImageRecord) → seen ≡ entries → Counts entries xs → i < length xs → old ≡ get_or xs i old → (unit : List ℕ) → bytes_on unit old.length old.copies ≤ recorded unit seen
+counted_as entries seen xs i old listed counts lt is unit =
+    omega (arith, ap (recorded unit) listed, counts unit, used_removed unit xs i old lt, ap (λ (x : ImageRecord). bytes_on unit x.length x.copies) is)
+
+-- what is written into all of a list's memory is the list
+written_back : (n : ℕ) (old new : List UnitBytes) → n ≡ length old → length new ≡ length old → take n (new ++ drop (length new) old) ≡ new
+written_back n old new long same =
+    ap (λ (k : ℕ). take k (new ++ drop (length new) old)) (long ∙ sym same) ∙ take-append_seam new (drop (length new) old)
+
+pub counts_left : (entries seen fewer : List UnitBytes) (n : ℕ) (xs after : List ImageRecord) (i : ℕ) (old : ImageRecord) → seen ≡ entries → Counts entries xs → i < length xs → old ≡ get_or xs i old → after ≡ remove xs i → ((unit : List ℕ) → bytes_on unit old.length old.copies + recorded unit fewer ≡ recorded unit seen) → n ≡ length entries → length fewer ≡ length seen → Counts (take n (fewer ++ drop (length fewer) entries)) after
+counts_left entries seen fewer n xs after i old listed counts lt is made lowered long same unit =
+    ap (recorded unit) (written_back n entries fewer long (same ∙ ap length listed))
+    ∙ omega (arith, lowered unit, ap (recorded unit) listed, counts unit, used_removed unit xs i old lt, ap (λ (x : ImageRecord). bytes_on unit x.length x.copies) is, ap (used unit) made)

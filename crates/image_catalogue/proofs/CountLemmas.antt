@@ -8,7 +8,7 @@ use Rattle.std.proofs.lemmas.Slice.Eq.{bytes_eq-Decides}
 use Rattle.site_types.specs.declared.image.CopyRecord.{CopyRecord}
 use Rattle.image_catalogue.specs.declared.unit_bytes.UnitBytes.{UnitBytes}
 use Rattle.image_catalogue.specs.Images.{bytes_on}
-use Rattle.image_catalogue.specs.Counts.{is_of, recorded, NoneBefore, IsFirst}
+use Rattle.image_catalogue.specs.Counts.{recorded, NoneBefore, IsFirst}
 
 same_unit : (a b : List ℕ) → bytes_eq a b ≡ true → a ≡ b
 same_unit a b same = (bytes_eq-Decides a b).0 same

@@ -79,9 +79,7 @@ impl Catalogue {
     pub fn first_of_client(&self, client: &Name) -> Option<&ImageRecord>
         ensures { option_copied result ≡ first_of_client client.now self.now }
     {
-        self.images
-            .iter()
-            .find(|image| image.id.client == *client)
+        self.images.iter().find(|image| image.id.client == *client)
     }
 
     /// The first image that was made under a policy, and None exactly where there is none.

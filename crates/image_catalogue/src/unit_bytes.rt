@@ -50,7 +50,7 @@ fn raise(
 ) -> Result<(), NoMemory>
     ensures { (other : List ℕ)
         → OnOk result (recorded other entries.new.items
-            ≡ (if bytes_eq unit.now other then size else 0) + recorded other entries.old.items) }
+        ≡ (if bytes_eq unit.now other then size else 0) + recorded other entries.old.items) }
 {
     match entry_of(entries, unit) {
         Some(at) => {
