@@ -1,0 +1,14 @@
+//! The catalogue of images: what is known of each, by client and time, and the bytes that their kept copies have on each unit.
+#![tactic(auto)]
+
+mod catalogue;
+mod place;
+mod unit_bytes;
+
+pub use catalogue::Catalogue;
+
+/// No memory was left.
+pub type NoMemory = std::alloc::AllocError;
+
+#[cfg(test)]
+mod tests;
