@@ -6,7 +6,7 @@ ghost use Rattle.schedule_windows.specs.Zones.{IsCivil, civil_at, offset_at, fix
 use crate::civil::civil_of;
 use crate::{Civil, rule};
 use jiff_tz::posix;
-use site_types::{NoMemory, Text};
+use site_types::{Copied, NoMemory, Text};
 use std::alloc::Global;
 use std::marker::Model;
 
@@ -31,6 +31,19 @@ impl Model for Zone {
     ghost view = { λ z. zone_of z.source };
 
     ghost invariant = { λ z. IsRead z.source };
+}
+
+impl Copied for Zone {
+    fn copy(&self, alloc: Global) -> Result<Zone, NoMemory> {
+        let source = match &self.source {
+            Source::Fixed(seconds) => Source::Fixed(*seconds),
+            Source::Rule { text, read } => Source::Rule {
+                text: text.copy(alloc)?,
+                read: *read,
+            },
+        };
+        Ok(Zone { source })
+    }
 }
 
 impl Zone {
