@@ -1,0 +1,9 @@
+//! The catalogue of images: what is known of each, by client and time, and the bytes that their kept copies have on each unit.
+#![tactic(auto)]
+
+mod catalogue;
+
+pub use catalogue::Catalogue;
+
+/// No memory was left.
+pub type NoMemory = std::alloc::AllocError;
