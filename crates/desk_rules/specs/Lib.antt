@@ -1,2 +1,3 @@
 pub mod DueBackups
 pub mod LastTimes
+pub mod Decisions

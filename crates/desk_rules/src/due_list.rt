@@ -6,7 +6,8 @@ ghost use Rattle.desk_rules.specs.DueBackups.{last_in, is_due_for, may_be_due, f
 
 use crate::foremost::foremost_of;
 use crate::last_times::LastTimes;
-use crate::{NoMemory, Site};
+use crate::NoMemory;
+use desk_model::Site;
 use policy_book::Policy;
 use schedule_windows::{Civil, Last, Zone, due};
 use site_types::{DueBackup, ImageRecord, Name, Schedule};

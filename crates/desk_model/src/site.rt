@@ -1,7 +1,7 @@
 use policy_book::Book;
 use schedule_windows::Zone;
 
-/// A site: its book, and the zone in which its windows open.
+/// A site: its book, and the zone on whose clock its windows open.
 #[derive(Debug, Drop)]
 pub struct Site {
     pub book: Book,
