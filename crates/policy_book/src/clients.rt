@@ -39,14 +39,14 @@ impl Book {
         Ok(())
     }
 
-    fn check_client_add(&self, alloc: Global, name: &Name) -> Result<(), BookFault>
+    pub(crate) fn check_client_add(&self, alloc: Global, name: &Name) -> Result<(), BookFault>
         ensures { Allows (client_add_refusals name.now self.now) result }
     {
         check_room(alloc, b"clients", self.clients.len(), CLIENT_LIMIT)?;
         check_new(alloc, &self.clients, name)
     }
 
-    fn check_client_remove(&self, alloc: Global, name: &Name) -> Result<(), BookFault>
+    pub(crate) fn check_client_remove(&self, alloc: Global, name: &Name) -> Result<(), BookFault>
         ensures { Allows (client_remove_refusals name.now self.now) result }
     {
         known_place(alloc, &self.clients, name)?;

@@ -2,6 +2,7 @@
 #![tactic(auto)]
 
 mod book;
+mod check;
 mod client;
 mod clients;
 mod fault;
