@@ -2,6 +2,8 @@
 #![tactic(auto)]
 
 mod catalogue;
+mod place;
+mod unit_bytes;
 
 pub use catalogue::Catalogue;
 
