@@ -20,7 +20,7 @@ impl Book {
             Request::UnitAdd { name, .. } => self.check_unit_add(alloc, name),
             Request::UnitChange { name, .. } => found(self.check_unit_change(alloc, name)),
             Request::ClientAdd { name } => self.check_client_add(alloc, name),
-            Request::ClientRemove { name } => self.check_client_remove(alloc, name),
+            Request::ClientRemove { name } => self.may_remove_client(alloc, name),
             Request::PolicyAdd {
                 policy,
                 lifecycle,
@@ -31,7 +31,7 @@ impl Book {
                 lifecycle,
                 ..
             } => found(self.check_policy_change(alloc, policy, lifecycle.as_ref())),
-            Request::PolicyRemove { policy } => self.check_policy_remove(alloc, policy),
+            Request::PolicyRemove { policy } => self.may_remove_policy(alloc, policy),
             Request::PolicyClientAdd { policy, client } => found(self.check_list(
                 alloc, policy, client,
             )),
