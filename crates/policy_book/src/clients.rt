@@ -46,12 +46,8 @@ impl Book {
         check_new(alloc, &self.clients, name)
     }
 
-<<<<<<< HEAD
-    pub(crate) fn check_client_remove(&self, alloc: Global, name: &Name) -> Result<(), BookFault>
-=======
     /// Whether a client may be removed: what `remove_client` would answer. A caller that knows more users of clients can ask first.
     pub fn may_remove_client(&self, alloc: Global, name: &Name) -> Result<(), BookFault>
->>>>>>> 39a9d3cedd42f37c7ae36d2f8e72cab90d721c0b
         ensures { Allows (client_remove_refusals name.now self.now) result }
     {
         known_place(alloc, &self.clients, name)?;
