@@ -1,3 +1,5 @@
 pub mod DueBackups
 pub mod LastTimes
 pub mod Decisions
+pub mod Refusing
+pub mod Seen

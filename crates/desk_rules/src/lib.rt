@@ -5,7 +5,8 @@ mod decision;
 mod due_list;
 mod foremost;
 mod last_times;
-
+mod refusal;
+mod restores;
 #[cfg(test)]
 mod tests;
 

@@ -23,6 +23,7 @@ mod units;
 pub use book::Book;
 pub use client::Client;
 pub use fault::{BookFault, LoadFault};
+pub use initial::first_unit;
 pub use policy::Policy;
 pub use site_file::site_lines;
 pub use units::{NewUnit, UnitChange};
