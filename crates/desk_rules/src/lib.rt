@@ -7,6 +7,7 @@ mod foremost;
 mod last_times;
 mod refusal;
 mod restores;
+mod settings;
 #[cfg(test)]
 mod tests;
 
