@@ -49,10 +49,10 @@ book_refuses refusals f (Ok x) allows is = absurd is
 book_refuses refusals f (Err r) allows is = record {
   passed = tt;
   refused = elim allows.refused [
-    inl lacks ↦ inl (is ∙ ap refusal_by lacks)
-  | inr first ↦ elim (refused_by f) [
-      inl lacks ↦ inl (is ∙ lacks)
-    | inr same ↦ inr (ap (option_map Answered) (first_answered refusals ∙ ap (option_map refusal_answer) first) ∙ ap (λ (x : Refusal). Some x) (same ∙ sym is))
+    | inl lacks ↦ inl (is ∙ ap refusal_by lacks)
+    | inr first ↦ elim (refused_by f) [
+      | inl lacks ↦ inl (is ∙ lacks)
+      | inr same ↦ inr (ap (option_map Answered) (first_answered refusals ∙ ap (option_map refusal_answer) first) ∙ ap (λ (x : Refusal). Some x) (same ∙ sym is))
     ]
   ];
 }

@@ -3,3 +3,4 @@ pub mod LastTimes
 pub mod Decisions
 pub mod Refusing
 pub mod Seen
+pub mod Asking

@@ -1,6 +1,9 @@
 //! What the rules of a site ask for: what requests are answered and what they change, and the backups that are due.
 #![tactic(auto)]
 
+mod asked;
+mod backup_clients;
+mod backup_room;
 mod decision;
 mod due_list;
 mod foremost;
