@@ -179,11 +179,18 @@ fn first_unit_of(slp: &Slp) -> &[u8]
     }
 }
 
+// So many times the capacity.
+fn hundredths(mark: u8, capacity: u64) -> u128
+    ensures { result ≡ mark * capacity }
+{
+    u128::from(mark) * u128::from(capacity)
+}
+
 // The high mark isn't reached.
 fn check_mark(alloc: Global, unit: &Unit, held: u64) -> Result<(), Refusal>
     ensures { Passes ((nat_le (unit.now.high * unit.now.capacity) (held * 100), answer.AboveHigh unit.now.name held unit.now.capacity) ∷ []) result }
 {
-    if u128::from(held) * 100 >= u128::from(unit.high) * u128::from(unit.capacity) {
+    if u128::from(held) * 100 >= hundredths(unit.high, unit.capacity) {
         return Err(Refusal::Answered(Answer::AboveHigh {
             unit: unit.name.copy(alloc)?,
             used: held,
