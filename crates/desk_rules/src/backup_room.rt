@@ -6,11 +6,10 @@ ghost use Rattle.site_types.specs.declared.answer.Answer.TheVariants as answer;
 ghost use Rattle.policy_book.specs.Lists.{named};
 ghost use Rattle.policy_book.specs.Book.{schedule_name, unit_name};
 ghost use Rattle.policy_book.specs.Changes.{is_full, last_of, pair_text};
-ghost use Rattle.image_catalogue.specs.Images.{used};
-ghost use Rattle.desk_model.specs.Backups.{backup_unit, is_waiting, latest_version, operations_in, room_refusals, schedule_chosen, unit_at, unit_of};
+ghost use Rattle.desk_model.specs.Backups.{backup_unit, is_waiting, latest_version, operations_in, schedule_chosen, unit_at, unit_of};
 ghost use Rattle.desk_rules.specs.Asking.{asked_by};
 ghost use Rattle.desk_rules.specs.Refusing.{Passes};
-ghost use Rattle.desk_rules.specs.Seen.{seen};
+ghost use Rattle.desk_rules.specs.Seen.{room_under, seen};
 
 use crate::NoMemory;
 use crate::asked::BackupAsked;
@@ -34,7 +33,7 @@ pub(crate) fn check_room<'a>(
     moment: u64,
 ) -> Result<&'a Schedule, Refusal>
     requires { moment ≤ last_moment }
-    ensures passes { Passes (room_refusals (asked_by asked.now) policy.now (schedule_chosen (asked_by asked.now).schedule policy.now) (unit_at (backup_unit policy.now site.now.book) site.now.book) (used (unit_at (backup_unit policy.now site.now.book) site.now.book).name images.now) moment (seen site.now images.now)) result }
+    ensures passes { Passes (room_under policy.now (asked_by asked.now) images.now moment (seen site.now images.now)) result }
     ensures schedule { IfOk result (λ s. schedule_chosen (asked_by asked.now).schedule policy.now ≡ Some s.now) }
     ensures time { IfOk result (λ s. last_of asked.now.client.now site.now.book + 1 ≤ last_moment) }
 {

@@ -4,6 +4,7 @@
 mod asked;
 mod backup_clients;
 mod backup_room;
+mod backups;
 mod decision;
 mod due_list;
 mod foremost;
