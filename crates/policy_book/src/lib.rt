@@ -29,3 +29,6 @@ pub use units::{NewUnit, UnitChange};
 
 /// No memory was left.
 pub type NoMemory = std::alloc::AllocError;
+
+#[cfg(test)]
+mod tests;
