@@ -1,4 +1,4 @@
-// The requests of a site file.
+// The words of the requests of a site file.
 ghost use Rattle.std.specs.Prelude.{◌≡◌, [], ◌∷◌, ◌++◌, map, codes, Some, None, IfOk, OnOk, IsErrOf, IsUtf8, option_map, option_and_then};
 ghost use Rattle.toml.specs.Data.{get_member};
 ghost use Rattle.toml.specs.Parse.{parse_document};
