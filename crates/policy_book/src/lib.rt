@@ -18,6 +18,7 @@ mod request_lines;
 mod schedules;
 mod selections;
 mod site_file;
+mod site_requests;
 mod units;
 
 pub use book::Book;
@@ -25,8 +26,11 @@ pub use client::Client;
 pub use fault::{BookFault, LoadFault};
 pub use initial::first_unit;
 pub use policy::Policy;
-pub use site_file::site_lines;
+pub use site_requests::load;
 pub use units::{NewUnit, UnitChange};
 
 /// No memory was left.
 pub type NoMemory = std::alloc::AllocError;
+
+#[cfg(test)]
+mod tests;
