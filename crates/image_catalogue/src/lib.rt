@@ -9,3 +9,6 @@ pub use catalogue::Catalogue;
 
 /// No memory was left.
 pub type NoMemory = std::alloc::AllocError;
+
+#[cfg(test)]
+mod tests;
