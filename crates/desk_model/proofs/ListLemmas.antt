@@ -2,8 +2,9 @@
 use Rattle.std.proofs.Common.{◌≡◌, Bool, true, false, List, [], ◌∷◌, refl, ◌∙◌, ap}
 use Rattle.std.specs.Prelude.{if◌then◌else◌, Option, Some, option_map, find}
 use Rattle.site_types.specs.declared.answer.Answer.{Answer}
-use Rattle.desk_model.specs.State.{Image, is_before, with_image}
-use Rattle.desk_model.specs.Step.{first_refusal}
+use Rattle.image_catalogue.specs.Images.{is_before}
+use Rattle.desk_model.specs.State.{Image, with_image}
+use Rattle.desk_model.specs.Refusals.{first_refusal}
 
 pub with_image_here : (new : Image) (image : Image) (images : List Image) → is_before new.entry.id image.entry.id ≡ true → with_image new (image ∷ images) ≡ new ∷ image ∷ images
 with_image_here new image images is = (λ i. if is i then new ∷ image ∷ images else image ∷ with_image new images)

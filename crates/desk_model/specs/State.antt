@@ -1,14 +1,14 @@
 -- The state of the desk.
-use Rattle.std.specs.Prelude.{ℕ, ◌==◌, ◌&&◌, Bool, if◌then◌else◌, List, [], ◌∷◌, codes, Option, find}
+use Rattle.std.specs.Prelude.{ℕ, Bool, if◌then◌else◌, List, [], ◌∷◌, codes, map, Option, find}
 use Rattle.std.specs.List.{list_any}
 use Rattle.std.specs.Str.{bytes_eq}
-use Rattle.std.specs.Cmp.Lexicographic.{slice_cmp}
-use Rattle.std.specs.Ordering.{is_lt, then_cmp, nat_cmp}
 use Rattle.site_types.specs.declared.id.BackupId.{BackupId}
 use Rattle.site_types.specs.declared.image.ImageRecord.{ImageRecord}
 use Rattle.site_types.specs.declared.image.Kind.{Kind}
 use Rattle.site_types.specs.declared.image.Base.{Base}
-use Rattle.desk_model.specs.Site.{Site, initial_site}
+use Rattle.image_catalogue.specs.Images.{same_id, is_before}
+use Rattle.desk_model.specs.declared.site.Site.{Site}
+use Rattle.desk_model.specs.Site.{initial_site}
 use Rattle.desk_model.specs.Pieces.{with_pieces}
 
 -- an image: what the catalogue has of it, and its bytes
@@ -27,7 +27,7 @@ pub data Job : Type 0 where
   duplication : (id : BackupId) (operation : ℕ) (bytes : List ℕ) → Job
   restore : (unit bytes : List ℕ) (position : ℕ) → Job
 
--- images by client and time, open jobs with their numbers
+-- images by client and time, the pieces of units in the order in which they were added, open jobs by number
 pub record State : Type 0 where
   pub site : Site
   pub images : List Image
@@ -43,17 +43,14 @@ initial = record { site = initial_site; images = []; stored = record { unit = co
 abbrev pub durable : State → State
 durable s = record s { jobs = []; next_job = 1 }
 
-abbrev pub same_id : BackupId → BackupId → Bool
-same_id a b = bytes_eq a.client b.client && (a.time == b.time)
-
--- by client, and then by time
-abbrev pub is_before : BackupId → BackupId → Bool
-is_before a b = is_lt (then_cmp (λ x y. slice_cmp nat_cmp x.client y.client) (λ x y. nat_cmp x.time y.time) a b)
-
 -- an image at its place
 abbrev pub with_image : Image → List Image → List Image
 with_image new [] = new ∷ []
 with_image new (i ∷ images) = if is_before new.entry.id i.entry.id then new ∷ i ∷ images else i ∷ with_image new images
+
+-- what the catalogue has of them
+abbrev pub entries : List Image → List ImageRecord
+entries images = map (λ i. i.entry) images
 
 abbrev pub has_image : BackupId → List Image → Bool
 has_image id images = list_any (λ i. same_id i.entry.id id) images

@@ -2,11 +2,6 @@
 //! that.
 #![tactic(auto)]
 
-mod client;
-mod image;
-mod piece;
-mod plain;
-mod refusal;
-mod restore;
+mod site;
 
-pub use plain::PlainDesk;
+pub use site::Site;

@@ -12,7 +12,7 @@ use Rattle.schedule_windows.specs.Zones.{ZoneOf, civil_at}
 use Rattle.schedule_windows.specs.Schedules.{is_due}
 use Rattle.schedule_windows.specs.declared.schedule.Last.{Last}
 use Rattle.policy_book.specs.Book.{Policy}
-use Rattle.desk_rules.specs.declared.site.Site.{Site}
+use Rattle.desk_model.specs.declared.site.Site.{Site}
 use Rattle.site_types.specs.declared.due.DueBackup.{DueBackup}
 
 -- the image was made under this policy and schedule for this client

@@ -1,15 +1,24 @@
-//! What the rules of a site ask for: the backups that are due.
+//! What the rules of a site ask for: what requests are answered and what they change, and the backups that are due.
 #![tactic(auto)]
 
+mod asked;
+mod backup_clients;
+mod backup_room;
+mod backups;
+mod deciding;
+mod decision;
 mod due_list;
 mod foremost;
 mod last_times;
-mod site;
+mod refusal;
+mod restores;
+mod settings;
 #[cfg(test)]
 mod tests;
 
+pub use deciding::decide;
+pub use decision::{Change, Decision, JobBody};
 pub use due_list::due_backups;
-pub use site::Site;
 
 /// No memory was left.
 pub type NoMemory = std::alloc::AllocError;

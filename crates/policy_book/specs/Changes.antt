@@ -94,6 +94,14 @@ raised time c = record c { last = max c.last time }
 abbrev pub last_raised : List ℕ → ℕ → Book → Book
 last_raised name time book = record book { clients = changed client_name name (raised time) book.clients }
 
+-- a client's last id time, 0 for one that isn't there
+abbrev pub last_of : List ℕ → Book → ℕ
+last_of name book = option_map_or (λ c. c.last) (named client_name name book.clients) 0
+
+-- a backup of the client with this time was sealed: its last id time is raised, and a client that isn't there is added
+abbrev pub client_sealed : List ℕ → ℕ → Book → Book
+client_sealed name time book = record book { clients = put client_name (record { name = name; last = max (last_of name book) time }) book.clients }
+
 -- Policies.
 
 abbrev pub has_lifecycle : List ℕ → Book → Bool

@@ -3,6 +3,7 @@ pub mod Places
 pub mod Book
 pub mod Kinds
 pub mod Changes
+pub mod Requests
 pub mod Refusals
 pub mod SiteFile
 pub mod Loading

@@ -1,10 +1,14 @@
 -- A site file as the words of its requests: each of its tables is one request, with a word for each of its keys.
 use Rattle.std.specs.Prelude.{ℕ, Bool, true, false, if◌then◌else◌, List, [], ◌∷◌, ◌++◌, codes, Option, Some, None, option_map, option_and_then}
 use Rattle.std.specs.List.{list_any}
+use Rattle.std.specs.Result.{result_ok}
 use Rattle.std.specs.Str.{bytes_eq}
 use Rattle.std.specs.Fmt.{signed_decimal}
 use Rattle.toml.specs.Data.{Data, string, integer, float, boolean, datetime, array, table, Items, no_items, item, Members, no_members, member, get_member}
+use Rattle.toml.specs.Parse.{parse_document}
 use Rattle.site_types.specs.Paths.{written}
+use Rattle.site_types.specs.Requests.{read_words}
+use Rattle.site_types.specs.declared.request.Request.{Request}
 
 -- the words of a request
 abbrev pub Line : Type 0
@@ -155,3 +159,12 @@ all_lines members =
 
 abbrev pub file_lines : Members → Option (List Line)
 file_lines members = if has_keys (codes "zone" ∷ codes "unit" ∷ codes "client" ∷ codes "policy" ∷ []) members then all_lines members else None
+
+-- the requests that lines of words ask for, where each of them is one
+abbrev pub requests_of : List Line → Option (List Request)
+requests_of [] = Some []
+requests_of (line ∷ lines) = option_and_then (λ request. option_map (λ requests. request ∷ requests) (requests_of lines)) (result_ok (read_words line))
+
+-- the requests of a site file, where the bytes are one
+abbrev pub site_requests : List ℕ → Option (List Request)
+site_requests bytes = option_and_then requests_of (option_and_then file_lines (parse_document bytes))

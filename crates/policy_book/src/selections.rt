@@ -12,7 +12,7 @@ ghost use Rattle.policy_book.specs.declared.fault.BookFault.TheVariants.{Exists,
 use crate::book::Book;
 use crate::refusals::check_room;
 use crate::{BookFault, Policy};
-use site_types::{Name, Text};
+use site_types::{Name, Text, written_path};
 use std::alloc::Global;
 
 const SELECTION_LIMIT: usize = 64;
@@ -39,7 +39,12 @@ impl Book {
     }
 
     // Where the policy stands.
-    fn check_select(&self, alloc: Global, policy: &Name, path: &Text) -> Result<usize, BookFault>
+    pub(crate) fn check_select(
+        &self,
+        alloc: Global,
+        policy: &Name,
+        path: &Text,
+    ) -> Result<usize, BookFault>
         ensures allows { Allows (select_refusals policy.now path.now self.now) result }
         ensures place { IfOk result (λ at. StandsAt policy_name self.now.policies policy.now at) }
     {
@@ -56,7 +61,12 @@ impl Book {
     }
 
     // Where the policy stands.
-    fn check_unselect(&self, alloc: Global, policy: &Name, path: &Text) -> Result<usize, BookFault>
+    pub(crate) fn check_unselect(
+        &self,
+        alloc: Global,
+        policy: &Name,
+        path: &Text,
+    ) -> Result<usize, BookFault>
         ensures allows { Allows (unselect_refusals policy.now path.now self.now) result }
         ensures place { IfOk result (λ at. StandsAt policy_name self.now.policies policy.now at) }
     {
@@ -71,7 +81,7 @@ fn check_unselected(alloc: Global, policy: &Policy, path: &Text) -> Result<(), B
     ensures { Allows ((list_any (λ s. bytes_eq s path.now) policy.now.selections, Exists (written path.now)) ∷ []) result }
 {
     if policy.selects(path) {
-        return Err(BookFault::Exists(written(alloc, path)?));
+        return Err(BookFault::Exists(written_path(alloc, path)?));
     }
     Ok(())
 }
@@ -81,7 +91,7 @@ fn check_selected(alloc: Global, policy: &Policy, path: &Text) -> Result<(), Boo
     ensures { Allows ((not (list_any (λ s. bytes_eq s path.now) policy.now.selections), Unknown (written path.now)) ∷ []) result }
 {
     if !policy.selects(path) {
-        return Err(BookFault::Unknown(written(alloc, path)?));
+        return Err(BookFault::Unknown(written_path(alloc, path)?));
     }
     Ok(())
 }

@@ -1,4 +1,4 @@
-// The requests of a site file.
+// The words of the requests of a site file.
 ghost use Rattle.std.specs.Prelude.{◌≡◌, [], ◌∷◌, ◌++◌, map, codes, Some, None, IfOk, OnOk, IsErrOf, IsUtf8, option_map, option_and_then};
 ghost use Rattle.toml.specs.Data.{get_member};
 ghost use Rattle.toml.specs.Parse.{parse_document};
@@ -37,8 +37,8 @@ const POLICY_PARTS: [&[u8]; 3] = [b"clients", b"selections", b"schedule"];
 
 const SCHEDULE_KEYS: [&[u8]; 5] = [b"schedule", b"kind", b"frequency", b"calendar", b"windows"];
 
-/// The requests of a site file, each as its words: the zone, the units, the clients, and each policy, followed by its clients,
-/// its selections and its schedules. Where the bytes are no site file it answers `NotASite`.
+// The requests of a site file, each as its words: the zone, the units, the clients, and each policy, followed by its clients,
+// its selections and its schedules. Where the bytes are no site file it answers `NotASite`.
 pub fn site_lines(alloc: Global, bytes: &[u8]) -> Result<Vec<ListOf<Text>>, LoadFault>
     ensures lines { IfOk result (λ v. IsUtf8 bytes.now × (option_and_then file_lines (parse_document bytes.now) ≡ Some v.items)) }
     ensures refused { IsErrOf result load.NotASite → IsUtf8 bytes.now → option_and_then file_lines (parse_document bytes.now) ≡ None }

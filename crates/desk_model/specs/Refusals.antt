@@ -1,0 +1,14 @@
+-- Requests that are refused.
+use Rattle.std.specs.Prelude.{Bool, if◌then◌else◌, List, [], ◌∷◌, Option, Some, None}
+use Rattle.site_types.specs.declared.answer.Answer.{Answer}
+use Rattle.desk_model.specs.State.{State}
+
+-- the first refusal that holds
+abbrev pub first_refusal : List (Bool × Answer) → Option Answer
+first_refusal [] = None
+first_refusal (r ∷ rs) = if r.0 then Some r.1 else first_refusal rs
+
+-- what a refusal leaves, or what is done where there is none
+abbrev pub unless_refused : State → Option Answer → Answer × State → Answer × State
+unless_refused s (Some answer) done = (answer, s)
+unless_refused s None done = done

@@ -1,0 +1,106 @@
+-- The requests that change the site: units, clients, policies, schedules, the zone, and all of them from a site file.
+use Rattle.std.specs.Prelude.{ℕ, ℤ, Bool, true, false, is_some, if◌then◌else◌, List, [], ◌∷◌, ◌++◌, length, map, codes, Option, Some, None, find, Result, Ok, Err}
+use Rattle.std.specs.Fmt.{decimal}
+use Rattle.std.specs.Option.{option_map_or}
+use Rattle.std.specs.Str.{bytes_eq, is_utf8}
+use Rattle.site_types.specs.Ids.{id_text}
+use Rattle.site_types.specs.declared.image.ImageRecord.{ImageRecord}
+use Rattle.site_types.specs.declared.answer.Answer.{Answer}
+use Rattle.site_types.specs.declared.answer.Answer.TheVariants as answer
+use Rattle.site_types.specs.declared.request.Request.{Request}
+use Rattle.site_types.specs.declared.request.Request.TheVariants.{UnitAdd, ClientRemove, PolicyRemove, ZoneSet}
+use Rattle.schedule_windows.specs.Zones.{ZoneOf, FixedOffset, PosixRule}
+use Rattle.policy_book.specs.declared.fault.BookFault.{BookFault}
+use Rattle.policy_book.specs.declared.fault.BookFault.TheVariants as fault
+use Rattle.policy_book.specs.Requests.{is_of_book, refusals_of, book_after}
+use Rattle.policy_book.specs.SiteFile.{site_requests}
+use Rattle.image_catalogue.specs.Images.{first_of_client, first_under}
+use Rattle.desk_model.specs.declared.site.Site.{Site}
+use Rattle.desk_model.specs.State.{State, Stored, Job, backup, duplication, restore, entries}
+use Rattle.desk_model.specs.Refusals.{first_refusal, unless_refused}
+
+-- it changes the book or the zone
+abbrev pub is_setting : Request → Bool
+is_setting (ZoneSet rule offset) = true
+is_setting request = is_of_book request
+
+-- what the book's refusals are answered
+abbrev pub refusal_answer : BookFault → Answer
+refusal_answer (fault.Exists name) = answer.Exists name
+refusal_answer (fault.Unknown name) = answer.Unknown name
+refusal_answer (fault.InUse name user) = answer.InUse name user
+refusal_answer (fault.TooMany kind count limit) = answer.TooMany kind count limit
+refusal_answer (fault.Rule rule) = answer.BadLifecycle rule
+refusal_answer fault.NoMemory = answer.OutOfMemory
+
+-- an open backup of a client, and one under a policy
+abbrev pub is_of_client : List ℕ → ℕ × Job → Bool
+is_of_client client (number, backup id policy schedule kind base lifecycle version bytes) = bytes_eq id.client client
+is_of_client client _ = false
+
+abbrev pub is_under : List ℕ → ℕ × Job → Bool
+is_under name (number, backup id policy schedule kind base lifecycle version bytes) = bytes_eq policy name
+is_under name _ = false
+
+-- a name is in use by a kept image, which is named by its id, and then by an open job
+abbrev pub used_by : List ℕ → Option ImageRecord → Option (ℕ × Job) → List (Bool × Answer)
+used_by name image job =
+    (is_some image, answer.InUse name (option_map_or (λ i. id_text i.id) image []))
+    ∷ (is_some job, answer.InUse name (codes "job " ++ option_map_or (λ j. decimal j.0) job []))
+    ∷ []
+
+-- a client and a policy are in use by what was made for them, or is being made
+abbrev pub use_refusals : Request → State → List (Bool × Answer)
+use_refusals (ClientRemove name) s = used_by name (first_of_client name (entries s.images)) (find (is_of_client name) s.jobs)
+use_refusals (PolicyRemove policy) s = used_by policy (first_under policy (entries s.images)) (find (is_under policy) s.jobs)
+use_refusals _ s = []
+
+-- the refusals of a request, in their order
+abbrev pub setting_refusals : Request → State → List (Bool × Answer)
+setting_refusals request s = map (λ r. (r.0, refusal_answer r.1)) (refusals_of request s.site.book) ++ use_refusals request s
+
+-- the zone of a rule, or else of an offset
+abbrev pub zone_given : Option (List ℕ) → Option ℤ → ZoneOf
+zone_given (Some rule) offset = PosixRule rule
+zone_given None (Some seconds) = FixedOffset seconds
+zone_given None None = PosixRule (codes "UTC0")
+
+abbrev pub site_after : Request → Site → Site
+site_after (ZoneSet rule offset) site = record site { zone = zone_given rule offset }
+site_after request site = record site { book = book_after request site.book }
+
+-- a unit that is added has nothing stored on it
+abbrev pub stored_after : Request → List Stored → List Stored
+stored_after (UnitAdd name capacity segment fragment slots high low) stored = stored ++ record { unit = name; pieces = [] } ∷ []
+stored_after _ stored = stored
+
+-- the state after it, where nothing refuses it
+abbrev pub set_by : Request → State → State
+set_by request s = record s { site = site_after request s.site; stored = stored_after request s.stored }
+
+abbrev pub setting_step : Request → State → Answer × State
+setting_step request s = unless_refused s (first_refusal (setting_refusals request s)) (answer.Done [], set_by request s)
+
+-- The requests of a site file, one after another: the state after all of them, or what the first that is refused is answered.
+abbrev pub all_set : List Request → State → Result State Answer
+all_set [] s = Ok s
+all_set (request ∷ requests) s = option_map_or (λ a. Err a) (first_refusal (setting_refusals request s)) (all_set requests (set_by request s))
+
+-- how many they are
+abbrev pub count_text : List Request → List ℕ
+count_text requests = decimal (length requests) ++ codes "\n"
+
+abbrev pub load_result : List Request → State → Result State Answer → Answer × State
+load_result requests s (Ok t) = (answer.Done (count_text requests), t)
+load_result requests s (Err refusal) = (refusal, s)
+
+-- the requests of a payload, where it is a site file
+abbrev pub file_requests : List ℕ → Option (List Request)
+file_requests payload = if is_utf8 payload then site_requests payload else None
+
+abbrev pub load_of : Option (List Request) → State → Answer × State
+load_of None s = (answer.BadRequest 1, s)
+load_of (Some requests) s = load_result requests s (all_set requests s)
+
+abbrev pub load_step : List ℕ → State → Answer × State
+load_step payload s = load_of (file_requests payload) s

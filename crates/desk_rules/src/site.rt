@@ -1,9 +1,0 @@
-use policy_book::Book;
-use schedule_windows::Zone;
-
-/// A site: its book, and the zone in which its windows open.
-#[derive(Debug, Drop)]
-pub struct Site {
-    pub book: Book,
-    pub zone: Zone,
-}
