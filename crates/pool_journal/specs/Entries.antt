@@ -51,6 +51,10 @@ spelled_entry (entry.WholeImage image) = 7 ∷ spelled_image image
 abbrev pub body_of : Record → List ℕ
 body_of r = spelled_entry r.entry ++ r.bytes
 
+-- what stands behind a record's gate, with the closed gate of the next
+abbrev pub staged_bytes : Record → List ℕ
+staged_bytes r = to_be_bytes w32 (length (body_of r)) ++ body_of r ++ 0 ∷ []
+
 -- how it is read
 abbrev pub id_made : (List ℕ × ℕ) × List ℕ → BackupId × List ℕ
 id_made (p, rest) = (record { client = p.0; time = p.1 }, rest)
@@ -148,3 +152,9 @@ pub record ImageFits (image : WholeImage) : Type 0 where
 abbrev pub IsSpellable : Entry → Type 0
 IsSpellable (entry.Settings lines) = Unit {0}
 IsSpellable (entry.WholeImage image) = ImageFits image
+
+-- these bytes are a record's that can be written, and that is read as it is spelled
+pub record IsStaged (r : Record) (bytes : List ℕ) : Type 0 where
+  pub writable : IsWritable r
+  pub spellable : IsSpellable r.entry
+  pub is : bytes ≡ staged_bytes r

@@ -1,8 +1,7 @@
-ghost use Rattle.std.specs.Prelude.{◌≡◌, ◌<◌, ◌^◌, ◌+◌, [], ◌∷◌, ◌++◌, List, length, IfOk, OnOk, IfErr, IsErrOf, vec_len};
-ghost use Rattle.std.specs.Int.{w32, to_be_bytes};
+ghost use Rattle.std.specs.Prelude.{◌≡◌, ◌+◌, List, length, IfOk, OnOk, OnErr, IfErr, IsErrOf};
 ghost use Rattle.vault_disk.specs.Disk.{IsSame};
 ghost use Rattle.vault_disk.specs.Steps.{Rose};
-ghost use Rattle.pool_journal.specs.Entries.{body_of, spelled_entry, IsSpellable, IsWritable};
+ghost use Rattle.pool_journal.specs.Entries.{Record, spelled_entry, IsWritable, IsStaged};
 ghost use Rattle.pool_journal.specs.Records.{Found};
 ghost use Rattle.pool_journal.specs.Stops.{AtRest, Appended, Stops, IsOfAppend};
 
@@ -13,7 +12,7 @@ use crate::spelling::spell_entry;
 use site_types::NoMemory;
 use std::alloc::Global;
 use std::marker::Model;
-use vault_disk::{Vault, write_durably};
+use vault_disk::{Failed, Vault, write_durably};
 
 /// An open journal: the offset of the closed gate behind its last record.
 #[derive(Drop)]
@@ -29,6 +28,20 @@ impl Model for Journal {
     ghost view = { λ j. j.end };
 }
 
+/// A record before it is written: what stands behind its gate, with the closed gate of the next.
+#[derive(Drop)]
+pub struct Staged {
+    bytes: Vec<u8>,
+}
+
+impl Model for Staged {
+    ghost use Rattle.std.specs.Prelude.{List, ℕ};
+
+    ghost Value = { List ℕ };
+
+    ghost view = { λ s. s.bytes.items };
+}
+
 impl Journal {
     /// The journal whose closed gate is at this offset.
     pub fn at(end: u64) -> Journal
@@ -42,6 +55,35 @@ impl Journal {
         ensures { result ≡ self.now }
     {
         self.end
+    }
+
+    /// Takes all memory of a record: the entry, and behind it the bytes of a whole image. It isn't written yet.
+    pub fn stage(alloc: Global, entry: &Entry, bytes: &[u8]) -> Result<Staged, NoMemory>
+        requires { IsWritable (record { entry = entry.now; bytes = bytes.now }) }
+        ensures { IfOk result (IsStaged (record { entry = entry.now; bytes = bytes.now })) }
+    {
+        let spelled = spell_entry(alloc, entry)?;
+        let size = spelled.len() + bytes.len();
+        let mut record = Vec::with_capacity(alloc, size + 5)?;
+        record.extend_from_slice(&(size as u32).to_be_bytes())?;
+        record.extend_from_slice(&spelled)?;
+        record.extend_from_slice(bytes)?;
+        record.extend_from_slice(&[0])?;
+        Ok(Staged { bytes: record })
+    }
+
+    /// Adds a record that was staged. It is on the disk when this returns. After a disk fault the journal is opened again.
+    pub fn write<V: Vault>(&mut self, vault: &mut V, staged: &Staged) -> Result<(), Failed>
+        ensures appended { (r : Record) → IsStaged r staged.now → (fs : List Found) → (V.disk vault.old).tells → AtRest (V.disk vault.old) self.old fs → OnOk result (Appended fs self.old r (V.disk vault.old) (V.disk vault.new) self.new) }
+        ensures stops { (r : Record) → IsStaged r staged.now → (fs : List Found) → (V.disk vault.old).tells → AtRest (V.disk vault.old) self.old fs → Stops fs self.old r (V.disk vault.old) (V.disk vault.new) }
+        ensures placed { (r : Record) → IsStaged r staged.now → (V.disk vault.old).tells → OnOk result (self.new ≡ self.old + 5 + length (spelled_entry r.entry) + length r.bytes) }
+        ensures same { IsSame (V.disk vault.old) (V.disk vault.new) }
+        ensures failed { OnErr result (Rose (V.disk vault.old).faults (V.disk vault.new).faults) }
+    {
+        write_durably(vault, 0, self.end.saturating_add(1), &staged.bytes)?;
+        write_durably(vault, 0, self.end, &[OPEN])?;
+        self.end = self.end.saturating_add(staged.bytes.len() as u64);
+        Ok(())
     }
 
     /// Adds a record: the entry, and behind it the bytes of a whole image. It is on the disk when this returns. After a disk
@@ -62,27 +104,8 @@ impl Journal {
         ensures memory { IsErrOf result JournalFault.NoMemory → (self.new ≡ self.old) × (vault.new ≡ vault.old) }
         ensures never { IfErr result IsOfAppend }
     {
-        let record = staged(alloc, entry, bytes)?;
-        write_durably(vault, 0, self.end.saturating_add(1), &record)?;
-        write_durably(vault, 0, self.end, &[OPEN])?;
-        self.end = self.end.saturating_add(record.len() as u64);
+        let staged = Journal::stage(alloc, entry, bytes)?;
+        self.write(vault, &staged)?;
         Ok(())
     }
-}
-
-// What stands behind a record's gate, with the closed gate of the next.
-fn staged(alloc: Global, entry: &Entry, bytes: &[u8]) -> Result<Vec<u8>, NoMemory>
-    requires { IsWritable (record { entry = entry.now; bytes = bytes.now }) }
-    ensures spelled { IfOk result (λ v. v.items ≡ to_be_bytes w32 (length (spelled_entry entry.now ++ bytes.now)) ++ (spelled_entry entry.now ++ bytes.now) ++ 0 ∷ []) }
-    ensures size { IfOk result (λ v. vec_len v ≡ 5 + length (spelled_entry entry.now ++ bytes.now)) }
-    ensures fits { OnOk result (IsSpellable entry.now) }
-{
-    let spelled = spell_entry(alloc, entry)?;
-    let size = spelled.len() + bytes.len();
-    let mut record = Vec::with_capacity(alloc, size + 5)?;
-    record.extend_from_slice(&(size as u32).to_be_bytes())?;
-    record.extend_from_slice(&spelled)?;
-    record.extend_from_slice(bytes)?;
-    record.extend_from_slice(&[0])?;
-    Ok(record)
 }

@@ -15,6 +15,6 @@ mod tests;
 
 pub use entry::{Entry, WholeImage};
 pub use fault::JournalFault;
-pub use journal::Journal;
+pub use journal::{Journal, Staged};
 pub use open::Opened;
 pub use records::Placed;
