@@ -1,7 +1,2 @@
-pub mod ClientLemmas
-pub mod CatalogueLemmas
-pub mod ReplayLemmas
+pub mod ExtentLemmas
 pub mod Standings
-pub mod Sealing
-pub mod Openings
-pub mod Restoring

@@ -1,6 +1,5 @@
 pub mod Stands
-pub mod Catalogue
+pub mod Extents
+pub mod Known
 pub mod Desk
-pub mod Clients
-pub mod Opening
 pub mod Restores

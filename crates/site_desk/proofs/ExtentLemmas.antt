@@ -13,9 +13,10 @@ use Rattle.std.proofs.lemmas.Map.Text.{is_eq-slice_cmp}
 use Rattle.std.proofs.lemmas.Slice.Eq.{bytes_eq-Decides}
 use Rattle.site_types.specs.declared.id.BackupId.{BackupId}
 use Rattle.pool_journal.specs.Records.{Found}
-use Rattle.desk_model.specs.State.{Image, same_id, is_before, has_image, image_named, with_image}
-use Rattle.site_desk.specs.Catalogue.{id_cmp, extent_of, Adds, Removes, IsKeptAt, IsKept, Catalogued}
-use Rattle.site_desk.specs.declared.catalogue.Extent.{Extent}
+use Rattle.image_catalogue.specs.Images.{same_id, is_before}
+use Rattle.desk_model.specs.State.{Image, has_image, image_named, with_image}
+use Rattle.site_desk.specs.Extents.{id_cmp, extent_of, Adds, Removes, IsKeptAt, IsKept, Catalogued}
+use Rattle.site_desk.specs.declared.extents.Extent.{Extent}
 
 is_eq-then : (a b : Ordering) → is_eq (ordering_then a b) ≡ (is_eq a && is_eq b)
 is_eq-then Less b = refl

@@ -9,7 +9,7 @@ use Rattle.site_types.specs.declared.id.BackupId.{BackupId}
 use Rattle.site_types.specs.declared.image.CopyRecord.{CopyRecord}
 use Rattle.pool_journal.specs.Records.{Found}
 use Rattle.desk_model.specs.State.{Image, image_named}
-use Rattle.site_desk.specs.declared.catalogue.Extent.{Extent}
+use Rattle.site_desk.specs.declared.extents.Extent.{Extent}
 
 -- by client, and then by time
 abbrev pub id_cmp : BackupId → BackupId → Ordering

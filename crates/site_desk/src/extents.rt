@@ -2,7 +2,7 @@
 ghost use Rattle.std.specs.Prelude.{◌≡◌, ◌+◌, ◌<◌, ◌^◌, length, None, is_some, OnOk, OnErr};
 ghost use Rattle.pool_journal.specs.Entries.{spelled_entry};
 ghost use Rattle.site_types.specs.declared.id.BackupId.{BackupId as Id};
-ghost use Rattle.site_desk.specs.Catalogue.{extent_of, Adds, Removes};
+ghost use Rattle.site_desk.specs.Extents.{extent_of, Adds, Removes};
 
 use pool_journal::Entry;
 use site_types::{BackupId, NoMemory};
@@ -19,26 +19,26 @@ pub struct Extent {
 
 /// The extents of images, by id.
 #[derive(Drop)]
-pub struct Catalogue {
+pub struct Extents {
     extents: BTreeMap<BackupId, Extent>,
 }
 
-impl Model for Catalogue {
+impl Model for Extents {
     ghost use Rattle.std.specs.Prelude.{List};
     ghost use Rattle.pool_journal.specs.Entries.{spelled_entry};
     ghost use Rattle.site_types.specs.declared.id.BackupId.{BackupId as Id};
-    ghost use Rattle.site_desk.specs.declared.catalogue.Extent.{Extent as ExtentValue};
+    ghost use Rattle.site_desk.specs.declared.extents.Extent.{Extent as ExtentValue};
 
     ghost Value = { List (Id × ExtentValue) };
 
     ghost view = { λ c. c.extents.entries };
 }
 
-impl Catalogue {
-    pub fn new(alloc: Global) -> Catalogue
+impl Extents {
+    pub fn new(alloc: Global) -> Extents
         ensures { (id : Id) → extent_of id result ≡ None }
     {
-        Catalogue {
+        Extents {
             extents: BTreeMap::new(alloc),
         }
     }
@@ -55,7 +55,7 @@ impl Catalogue {
         self.extents.contains_key(id)
     }
 
-    /// Adds an image, or leaves the catalogue as it was.
+    /// Adds an image, or leaves the extents as they were.
     pub fn add(&mut self, id: BackupId, extent: Extent) -> Result<(), NoMemory>
         ensures added { OnOk result (Adds id extent self.old self.new) }
         ensures unchanged { OnErr result (self.new ≡ self.old) }

@@ -2,9 +2,9 @@ use Rattle.std.proofs.Common.{◌∙◌, ap, List, Some}
 use Rattle.std.specs.Prelude.{cond}
 use Rattle.std.specs.BTreeMap.{is_at}
 use Rattle.site_types.specs.declared.id.BackupId.{BackupId}
-use Rattle.site_desk.specs.Catalogue.{extent_of, id_cmp}
-use Rattle.site_desk.specs.declared.catalogue.Extent.{Extent}
-use Rattle.site_desk.proofs.catalogue.Catalogue.add.Goals as goal
+use Rattle.site_desk.specs.Extents.{extent_of, id_cmp}
+use Rattle.site_desk.specs.declared.extents.Extent.{Extent}
+use Rattle.site_desk.proofs.extents.Extents.add.Goals as goal
 
 pub returns-clause-added : goal.returns-clause-added
 returns-clause-added c q =
