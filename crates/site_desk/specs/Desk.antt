@@ -1,5 +1,5 @@
 -- What contracts see of a desk.
-use Rattle.std.specs.Prelude.{◌≡◌, ℕ, Bool, List, [], Result, Ok, Err}
+use Rattle.std.specs.Prelude.{◌≡◌, ℕ, Bool, List, [], Result, Ok, Err, OnOk}
 use Rattle.site_types.specs.declared.answer.Answer.{Answer}
 use Rattle.site_types.specs.declared.answer.Answer.TheVariants.{Done, OutOfMemory, BadRequest, DiskFault, ReadFault, SendFault, ClockFault, NotAVault}
 use Rattle.site_types.specs.declared.request.Request.{Request}
@@ -18,8 +18,6 @@ use Rattle.desk_rules.specs.declared.decision.JobBody.TheVariants.{Backup}
 use Rattle.site_desk.specs.Stands.{applied, opened, Standing, Between}
 use Rattle.site_desk.specs.Known.{built, Remembers}
 use Rattle.site_desk.specs.declared.known.Known.{Known}
-use Rattle.site_desk.specs.declared.record.Recorded.{Recorded}
-use Rattle.site_desk.specs.declared.record.Recorded.TheVariants.{Written}
 
 abbrev pub images_in : Result State ℕ → List Image
 images_in (Ok s) = s.images
@@ -106,11 +104,11 @@ pub record KeptMore (fs : List Found) (at : ℕ) (r : Record) (disk : Disk) (end
   pub kept : KeptState disk end state
   pub records_are : kept.records ≡ with_one fs at r
 
--- a record was written that takes one state to another
-pub record Commits (s t : State) (fs : List Found) (at : ℕ) (r : Record) (old new : Disk) (end : ℕ) (result : Recorded) : Type 0 where
+-- a record was to be written that takes one state to another
+pub record Commits {T E : Type 0} (s t : State) (fs : List Found) (at : ℕ) (r : Record) (old new : Disk) (end : ℕ) (result : Result T E) : Type 0 where
   pub between : Between s t old new
-  pub kept : result ≡ Written → KeptMore fs at r new end t
-  pub standing : result ≡ Written → Standing new t
+  pub kept : OnOk result (KeptMore fs at r new end t)
+  pub standing : OnOk result (Standing new t)
 
 -- a fault of an opening: no vault exactly where the image stands for nothing, with the offset of that
 abbrev pub IsFaultOf : Result State ℕ → JournalFault → Type 0
