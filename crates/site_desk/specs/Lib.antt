@@ -3,3 +3,4 @@ pub mod Extents
 pub mod Known
 pub mod Desk
 pub mod Restores
+pub mod Steps

@@ -1,10 +1,16 @@
 //! The desk over a vault: requests are answered as the model answers them, and what was answered outlives a stop.
 #![tactic(auto)]
 
+mod backup;
 mod desk;
 mod extents;
 mod image;
 mod known;
+mod load;
+mod prepare;
 mod record;
+mod restore;
+mod settings;
+mod step;
 
 pub use desk::Desk;
