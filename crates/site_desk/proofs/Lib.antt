@@ -1,3 +1,4 @@
 pub mod Admitting
 pub mod ExtentLemmas
 pub mod Standings
+pub mod States
