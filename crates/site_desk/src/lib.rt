@@ -6,5 +6,6 @@ mod extents;
 mod image;
 mod known;
 mod record;
+mod setting;
 
 pub use desk::Desk;
