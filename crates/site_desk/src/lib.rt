@@ -2,6 +2,7 @@
 #![tactic(auto)]
 
 mod backup;
+mod change;
 mod desk;
 mod extents;
 mod image;
@@ -10,7 +11,7 @@ mod load;
 mod prepare;
 mod record;
 mod restore;
-mod settings;
+mod setting;
 mod step;
 
 pub use desk::Desk;

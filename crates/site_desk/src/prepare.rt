@@ -9,9 +9,9 @@ ghost use Rattle.site_desk.specs.Desk.{IsDone};
 ghost use Rattle.site_desk.specs.Steps.{is_written, IsReady, IsRefused, IsStepRefusal};
 
 use crate::backup::prepare_backup;
+use crate::change::prepare_change;
 use crate::known::Known;
 use crate::load::prepare_load;
-use crate::settings::prepare_setting;
 use pool_journal::Staged;
 use site_types::{Answer, Request};
 use std::alloc::Global;
@@ -47,6 +47,6 @@ pub fn prepare(
         Request::Load => prepare_load(alloc, known, payload),
         Request::Backup { .. } => prepare_backup(alloc, known, end, request, payload, moment),
         Request::Restore { .. } => unreachable!(),
-        _ => prepare_setting(alloc, known, request),
+        _ => prepare_change(alloc, known, request),
     }
 }

@@ -1,4 +1,4 @@
-// A request that changes the site, and the lines of a settings record.
+// A request that changes the site.
 ghost use Rattle.std.specs.Prelude.{◌≡◌, ◌≤◌, ℕ, List, true, length, IfOk, IfErr, OnErr};
 ghost use Rattle.site_types.specs.Lines.{IsFormed};
 ghost use Rattle.pool_journal.specs.Records.{Found};
@@ -14,7 +14,7 @@ use site_types::{Answer, Request};
 use std::alloc::Global;
 
 /// Makes ready the record of a request that changes the site.
-pub fn prepare_setting(alloc: Global, known: &mut Known, request: &Request) -> Result<Ready, Answer>
+pub fn prepare_change(alloc: Global, known: &mut Known, request: &Request) -> Result<Ready, Answer>
     requires setting { is_setting request.now ≡ true }
     requires formed { IsFormed request.now }
     ensures ready { (records : List Found) (images : List Image) (stored : List Stored) (end : ℕ) (payload : List ℕ) (moment : ℕ) → Remembers records known.old images → IfOk result (λ r. IsReady records end (built known.old.site images stored) request.now payload moment r.staged r.answer known.new) }
