@@ -81,7 +81,7 @@ named-with id new (i ∷ images) fresh = at (is_before new.entry.id i.entry.id) 
     at true more = refl
     at false more = ap (λ (o : Option Image). cond (same_id i.entry.id id) (Some i) o) more ∙ swapped (same_id i.entry.id id) (same_id new.entry.id id) refl refl
 
-kept_by : (records records' : List Found) → ((f : Found) → Contains records f → Contains records' f) → (e : Option Extent) (i : Option Image) → IsKept records e i → IsKept records' e i
+pub kept_by : (records records' : List Found) → ((f : Found) → Contains records f → Contains records' f) → (e : Option Extent) (i : Option Image) → IsKept records e i → IsKept records' e i
 kept_by records records' there None None kept = tt
 kept_by records records' there None (Some i) kept = absurd kept
 kept_by records records' there (Some e) None kept = absurd kept

@@ -1,7 +1,7 @@
 -- What a step promises, and what is made ready before it writes.
 use Rattle.std.specs.Prelude.{◌≡◌, ◌≢◌, ℕ, ◌+◌, ◌^◌, ◌<◌, Bool, true, false, List, length, Some}
 use Rattle.site_types.specs.declared.answer.Answer.{Answer}
-use Rattle.site_types.specs.declared.answer.Answer.TheVariants.{DiskFault}
+use Rattle.site_types.specs.declared.answer.Answer.TheVariants.{Done, DiskFault}
 use Rattle.site_types.specs.declared.request.Request.{Request}
 use Rattle.site_types.specs.declared.request.Request.TheVariants.{Backup, Restore}
 use Rattle.vault_disk.specs.Disk.{Disk}
@@ -12,7 +12,7 @@ use Rattle.desk_model.specs.State.{State, Image, Stored}
 use Rattle.desk_model.specs.Step.{step}
 use Rattle.site_desk.specs.Stands.{apply, Standing, Between}
 use Rattle.site_desk.specs.Known.{built, Remembers}
-use Rattle.site_desk.specs.Desk.{IsDone, Answered, Moved, reached, IsOfStep, IsRefusal}
+use Rattle.site_desk.specs.Desk.{Answered, Moved, reached, IsOfStep, IsRefusal}
 use Rattle.site_desk.specs.declared.known.Known.{Known}
 
 -- a step over a vault that tells: what is answered, the state after it, and what a stop leaves
@@ -32,13 +32,13 @@ is_backup (Backup client policy schedule start) = true
 is_backup request = false
 
 -- a record is ready to be written behind these, which takes a state to the one that is known now
-pub record IsReady (records : List Found) (end : ℕ) (s : State) (request : Request) (payload : List ℕ) (moment : ℕ) (staged : List ℕ) (answer : Answer) (known : Known) : Type 0 where
+pub record IsReady (records : List Found) (end : ℕ) (s : State) (request : Request) (payload : List ℕ) (moment : ℕ) (staged body : List ℕ) (known : Known) : Type 0 where
   pub row : Record
   pub staged_is : IsStaged row staged
   pub images : List Image
   pub stored : List Stored
   pub applies : apply s row ≡ Some (built known.site images stored)
-  pub steps : step s request payload moment ≡ (answer, built known.site images stored)
+  pub steps : step s request payload moment ≡ (Done body, built known.site images stored)
   pub remembers : end + 5 + length (spelled_entry row.entry) < 2 ^ 63 → Remembers (with_one records end row) known images
 
 -- a step is refused so, and nothing is done

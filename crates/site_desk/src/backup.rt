@@ -4,7 +4,6 @@ ghost use Rattle.site_types.specs.Limits.{last_moment, payload_limit};
 ghost use Rattle.pool_journal.specs.Records.{Found};
 ghost use Rattle.desk_model.specs.State.{Image, Stored};
 ghost use Rattle.site_desk.specs.Known.{built, Remembers, SameKnown};
-ghost use Rattle.site_desk.specs.Desk.{IsDone};
 ghost use Rattle.site_desk.specs.Steps.{is_backup, IsReady, IsRefused, IsStepRefusal};
 
 use crate::known::Known;
@@ -24,9 +23,8 @@ pub fn prepare_backup(
     requires backup { is_backup request.now ≡ true }
     requires payload { length payload.now ≤ payload_limit }
     requires moment { moment ≤ last_moment }
-    ensures ready { (records : List Found) (images : List Image) (stored : List Stored) → Remembers records known.old images → IfOk result (λ r. IsReady records end (built known.old.site images stored) request.now payload.now moment r.staged r.answer known.new) }
+    ensures ready { (records : List Found) (images : List Image) (stored : List Stored) → Remembers records known.old images → IfOk result (λ r. IsReady records end (built known.old.site images stored) request.now payload.now moment r.staged r.body known.new) }
     ensures refused { (records : List Found) (images : List Image) (stored : List Stored) → Remembers records known.old images → IfErr result (IsRefused (built known.old.site images stored) request.now payload.now moment) }
-    ensures done { IfOk result (λ r. IsDone r.answer) }
     ensures plain { IfErr result IsStepRefusal }
     ensures unchanged { OnErr result (SameKnown known.old known.new) }
 {

@@ -5,7 +5,6 @@ ghost use Rattle.pool_journal.specs.Records.{Found};
 ghost use Rattle.desk_model.specs.State.{Image, Stored};
 ghost use Rattle.desk_model.specs.Settings.{is_setting};
 ghost use Rattle.site_desk.specs.Known.{built, Remembers, SameKnown};
-ghost use Rattle.site_desk.specs.Desk.{IsDone};
 ghost use Rattle.site_desk.specs.Steps.{IsReady, IsRefused, IsStepRefusal};
 
 use crate::known::Known;
@@ -17,9 +16,8 @@ use std::alloc::Global;
 pub fn prepare_change(alloc: Global, known: &mut Known, request: &Request) -> Result<Ready, Answer>
     requires setting { is_setting request.now ≡ true }
     requires formed { IsFormed request.now }
-    ensures ready { (records : List Found) (images : List Image) (stored : List Stored) (end : ℕ) (payload : List ℕ) (moment : ℕ) → Remembers records known.old images → IfOk result (λ r. IsReady records end (built known.old.site images stored) request.now payload moment r.staged r.answer known.new) }
+    ensures ready { (records : List Found) (images : List Image) (stored : List Stored) (end : ℕ) (payload : List ℕ) (moment : ℕ) → Remembers records known.old images → IfOk result (λ r. IsReady records end (built known.old.site images stored) request.now payload moment r.staged r.body known.new) }
     ensures refused { (records : List Found) (images : List Image) (stored : List Stored) (payload : List ℕ) (moment : ℕ) → Remembers records known.old images → IfErr result (IsRefused (built known.old.site images stored) request.now payload moment) }
-    ensures done { IfOk result (λ r. IsDone r.answer) }
     ensures plain { IfErr result IsStepRefusal }
     ensures unchanged { OnErr result (SameKnown known.old known.new) }
 {

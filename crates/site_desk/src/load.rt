@@ -3,7 +3,6 @@ ghost use Rattle.std.specs.Prelude.{◌≡◌, ◌≤◌, ℕ, List, length, IfO
 ghost use Rattle.pool_journal.specs.Records.{Found};
 ghost use Rattle.desk_model.specs.State.{Image, Stored};
 ghost use Rattle.site_desk.specs.Known.{built, Remembers, SameKnown};
-ghost use Rattle.site_desk.specs.Desk.{IsDone};
 ghost use Rattle.site_desk.specs.Steps.{IsReady, IsRefused, IsStepRefusal};
 
 use crate::known::Known;
@@ -13,9 +12,8 @@ use std::alloc::Global;
 
 /// Makes ready the record of the requests of a site file.
 pub fn prepare_load(alloc: Global, known: &mut Known, payload: &[u8]) -> Result<Ready, Answer>
-    ensures ready { (records : List Found) (images : List Image) (stored : List Stored) (end : ℕ) (moment : ℕ) → Remembers records known.old images → IfOk result (λ r. IsReady records end (built known.old.site images stored) Request.Load payload.now moment r.staged r.answer known.new) }
+    ensures ready { (records : List Found) (images : List Image) (stored : List Stored) (end : ℕ) (moment : ℕ) → Remembers records known.old images → IfOk result (λ r. IsReady records end (built known.old.site images stored) Request.Load payload.now moment r.staged r.body known.new) }
     ensures refused { (records : List Found) (images : List Image) (stored : List Stored) (moment : ℕ) → Remembers records known.old images → IfErr result (IsRefused (built known.old.site images stored) Request.Load payload.now moment) }
-    ensures done { IfOk result (λ r. IsDone r.answer) }
     ensures plain { IfErr result IsStepRefusal }
     ensures unchanged { OnErr result (SameKnown known.old known.new) }
 {

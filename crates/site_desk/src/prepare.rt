@@ -5,7 +5,6 @@ ghost use Rattle.site_types.specs.Lines.{IsFormed};
 ghost use Rattle.pool_journal.specs.Records.{Found};
 ghost use Rattle.desk_model.specs.State.{Image, Stored};
 ghost use Rattle.site_desk.specs.Known.{built, Remembers, SameKnown};
-ghost use Rattle.site_desk.specs.Desk.{IsDone};
 ghost use Rattle.site_desk.specs.Steps.{is_written, IsReady, IsRefused, IsStepRefusal};
 
 use crate::backup::prepare_backup;
@@ -13,14 +12,14 @@ use crate::change::prepare_change;
 use crate::known::Known;
 use crate::load::prepare_load;
 use pool_journal::Staged;
-use site_types::{Answer, Request};
+use site_types::{Answer, Request, Text};
 use std::alloc::Global;
 
-/// A record that is ready to be written, and what the request is answered once it is.
+/// A record that is ready to be written, and the body of what the request is answered once it is.
 #[derive(Drop)]
 pub struct Ready {
     pub staged: Staged,
-    pub answer: Answer,
+    pub body: Text,
 }
 
 /// Makes ready what a request records, behind the journal's closed gate at `end`. From then on what is known is that of the state
@@ -37,9 +36,8 @@ pub fn prepare(
     requires formed { IsFormed request.now }
     requires payload { length payload.now ≤ payload_limit }
     requires moment { moment ≤ last_moment }
-    ensures ready { (records : List Found) (images : List Image) (stored : List Stored) → Remembers records known.old images → IfOk result (λ r. IsReady records end (built known.old.site images stored) request.now payload.now moment r.staged r.answer known.new) }
+    ensures ready { (records : List Found) (images : List Image) (stored : List Stored) → Remembers records known.old images → IfOk result (λ r. IsReady records end (built known.old.site images stored) request.now payload.now moment r.staged r.body known.new) }
     ensures refused { (records : List Found) (images : List Image) (stored : List Stored) → Remembers records known.old images → IfErr result (IsRefused (built known.old.site images stored) request.now payload.now moment) }
-    ensures done { IfOk result (λ r. IsDone r.answer) }
     ensures plain { IfErr result IsStepRefusal }
     ensures unchanged { OnErr result (SameKnown known.old known.new) }
 {

@@ -62,7 +62,7 @@ impl<V: Vault> Desk<V> {
             Err(refusal) => return refusal,
         };
         match write_record(&mut self.journal, &mut self.vault, &ready.staged) {
-            Ok(()) => ready.answer,
+            Ok(()) => Answer::Done { body: ready.body },
             Err(Failed) => {
                 self.stopped = true; // The record may be there or not.
                 Answer::DiskFault
