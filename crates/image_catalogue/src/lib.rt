@@ -2,8 +2,13 @@
 #![tactic(auto)]
 
 mod catalogue;
+mod place;
+mod unit_bytes;
 
 pub use catalogue::Catalogue;
 
 /// No memory was left.
 pub type NoMemory = std::alloc::AllocError;
+
+#[cfg(test)]
+mod tests;

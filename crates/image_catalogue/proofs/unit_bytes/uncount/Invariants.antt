@@ -1,0 +1,8 @@
+use Rattle.std.proofs.Common.{◌≡◌, ◌+◌, ℕ, List, take}
+use Rattle.image_catalogue.specs.Images.{bytes_on}
+use Rattle.image_catalogue.specs.Counts.{recorded}
+use Rattle.image_catalogue.proofs.unit_bytes.uncount.Given as goal
+
+abbrev pub invariant-loop-copy : goal.invariant-loop-copy
+invariant-loop-copy l =
+    (unit : List ℕ) → bytes_on unit l.image.length (take l.copy-index l.image.copies) + recorded unit l.entries ≡ recorded unit l.fn.entries
