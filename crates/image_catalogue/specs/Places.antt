@@ -1,8 +1,8 @@
 -- Where an image stands in a list by id, or would stand.
-use Rattle.std.specs.Prelude.{◌≡◌, ◌≤◌, ◌<◌, ℕ, List, length, Result, MatchResult}
+use Rattle.std.specs.Prelude.{◌≡◌, ◌≤◌, ◌<◌, ℕ, Bool, true, false, List, length, Result, MatchResult}
 use Rattle.std.specs.List.{HoldsAt, AllWithin}
 use Rattle.std.specs.Cmp.Lexicographic.{slice_cmp}
-use Rattle.std.specs.Ordering.{then_cmp, nat_cmp}
+use Rattle.std.specs.Ordering.{is_lt, then_cmp, nat_cmp}
 use Rattle.std.specs.declared.cmp.Ordering.{Ordering}
 use Rattle.std.specs.declared.cmp.Ordering.TheVariants.{Less, Equal, Greater}
 use Rattle.site_types.specs.declared.id.BackupId.{BackupId}
@@ -25,3 +25,14 @@ LacksAt images id i =
 
 abbrev pub IsPlace : List ImageRecord → BackupId → Result ℕ ℕ → Type 0
 IsPlace images id place = MatchResult place (StandsAt images id) (LacksAt images id)
+
+-- the image is of a client whose name is lower
+abbrev pub is_below : List ℕ → ImageRecord → Bool
+is_below client image = is_lt (slice_cmp nat_cmp image.id.client client)
+
+-- the images before this place are of clients with lower names, and the others aren't
+abbrev pub IsClientPlace : List ImageRecord → List ℕ → ℕ → Type 0
+IsClientPlace images client i =
+    (i ≤ length images)
+    × AllWithin (λ (image : ImageRecord). is_below client image ≡ true) images 0 i
+    × AllWithin (λ (image : ImageRecord). is_below client image ≡ false) images i (length images)

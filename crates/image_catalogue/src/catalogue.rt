@@ -4,7 +4,7 @@ ghost use Rattle.site_types.specs.declared.image.ImageRecord.{ImageRecord as Rec
 ghost use Rattle.image_catalogue.specs.Images.{AreById, bytes_on, first_of_client, first_under, record_named, used, with_record, without_record};
 
 use crate::NoMemory;
-use crate::place::{new_place, place};
+use crate::place::{first_of_client, new_place, place};
 use crate::unit_bytes::{UnitBytes, bytes_of, counted, uncount};
 use site_types::{BackupId, ImageRecord, Name};
 use std::alloc::Global;
@@ -79,7 +79,7 @@ impl Catalogue {
     pub fn first_of_client(&self, client: &Name) -> Option<&ImageRecord>
         ensures { option_copied result ≡ first_of_client client.now self.now }
     {
-        self.images.iter().find(|image| image.id.client == *client)
+        first_of_client(&self.images, client)
     }
 
     /// The first image that was made under a policy, and None exactly where there is none.

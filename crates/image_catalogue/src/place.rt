@@ -1,9 +1,10 @@
 // Where an image stands in a list by id, or would stand.
 ghost use Rattle.std.specs.Prelude.{◌≡◌, None};
-ghost use Rattle.image_catalogue.specs.Images.{AreById, record_named};
-ghost use Rattle.image_catalogue.specs.Places.{IsPlace, LacksAt, id_cmp};
+ghost use Rattle.std.specs.Option.{option_copied};
+ghost use Rattle.image_catalogue.specs.Images.{AreById, first_of_client, record_named};
+ghost use Rattle.image_catalogue.specs.Places.{IsClientPlace, IsPlace, LacksAt, id_cmp};
 
-use site_types::{BackupId, ImageRecord};
+use site_types::{BackupId, ImageRecord, Name};
 use std::cmp::Ordering;
 
 fn compare(image: &ImageRecord, id: &BackupId) -> Ordering
@@ -29,4 +30,21 @@ pub fn new_place(images: &[ImageRecord], id: &BackupId) -> usize
     match place(images, id) {
         Ok(at) | Err(at) => at,
     }
+}
+
+// Where the images of a client begin, or would begin.
+fn client_place(images: &[ImageRecord], client: &Name) -> usize
+    requires { AreById images.now }
+    ensures { IsClientPlace images.now client.now result }
+{
+    images.partition_point(|image| image.id.client < *client)
+}
+
+// The earliest image of a client.
+pub fn first_of_client<'a>(images: &'a [ImageRecord], client: &Name) -> Option<&'a ImageRecord>
+    requires { AreById images.now }
+    ensures { option_copied result ≡ first_of_client client.now images.now }
+{
+    let first = images.get(client_place(images, client))?;
+    (first.id.client == *client).then_some(first)
 }

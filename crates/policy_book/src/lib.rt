@@ -1,6 +1,7 @@
 //! The book of a site: its units, clients, lifecycles and policies, and each change of them.
 #![tactic(auto)]
 
+mod apply;
 mod book;
 mod client;
 mod clients;
@@ -16,19 +17,15 @@ mod request_lines;
 mod schedules;
 mod selections;
 mod site_file;
+mod site_requests;
 mod units;
 
 pub use book::Book;
 pub use client::Client;
 pub use fault::{BookFault, LoadFault};
 pub use policy::Policy;
-pub use site_file::site_lines;
+pub use site_requests::load;
 pub use units::{NewUnit, UnitChange};
 
 /// No memory was left.
 pub type NoMemory = std::alloc::AllocError;
-
-#[cfg(test)]
-mod site_tests;
-#[cfg(test)]
-mod tests;

@@ -1,5 +1,6 @@
 pub mod Admitting
 pub mod ExtentLemmas
+pub mod ImageLemmas
 pub mod Knowing
 pub mod ReplayLemmas
 pub mod Restoring
