@@ -2,3 +2,5 @@ pub mod LastTimeLemmas
 pub mod ForemostLemmas
 pub mod FilterLemmas
 pub mod DueLemmas
+pub mod RefusalLemmas
+pub mod SeenLemmas

@@ -1,3 +1,6 @@
 pub mod DueBackups
 pub mod LastTimes
 pub mod Decisions
+pub mod Refusing
+pub mod Seen
+pub mod Asking

@@ -4,9 +4,9 @@ ghost use Rattle.site_types.specs.Limits.{last_moment};
 ghost use Rattle.schedule_windows.specs.Zones.{IsCivil, civil_at};
 ghost use Rattle.desk_rules.specs.DueBackups.{last_in, is_due_for, may_be_due, foremost, line_of, due_of_policy, due_backups, AllInTime};
 
+use crate::NoMemory;
 use crate::foremost::foremost_of;
 use crate::last_times::LastTimes;
-use crate::NoMemory;
 use desk_model::Site;
 use policy_book::Policy;
 use schedule_windows::{Civil, Last, Zone, due};

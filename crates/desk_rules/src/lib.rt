@@ -1,11 +1,17 @@
 //! What the rules of a site ask for: what requests are answered and what they change, and the backups that are due.
 #![tactic(auto)]
 
+mod asked;
+mod backup_clients;
+mod backup_room;
+mod backups;
 mod decision;
 mod due_list;
 mod foremost;
 mod last_times;
-
+mod refusal;
+mod restores;
+mod settings;
 #[cfg(test)]
 mod tests;
 

@@ -39,7 +39,7 @@ impl Book {
         Ok(())
     }
 
-    fn check_client_add(&self, alloc: Global, name: &Name) -> Result<(), BookFault>
+    pub(crate) fn check_client_add(&self, alloc: Global, name: &Name) -> Result<(), BookFault>
         ensures { Allows (client_add_refusals name.now self.now) result }
     {
         check_room(alloc, b"clients", self.clients.len(), CLIENT_LIMIT)?;

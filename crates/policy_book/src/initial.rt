@@ -34,7 +34,8 @@ fn name(alloc: Global, bytes: &[u8]) -> Result<Name, NoMemory>
     }
 }
 
-fn first_unit(alloc: Global) -> Result<Unit, NoMemory>
+/// The unit of a new vault.
+pub fn first_unit(alloc: Global) -> Result<Unit, NoMemory>
     ensures { IfOk result (λ unit. unit ≡ disk0) }
 {
     Ok(Unit {

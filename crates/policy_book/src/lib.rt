@@ -3,6 +3,7 @@
 
 mod apply;
 mod book;
+mod check;
 mod client;
 mod clients;
 mod fault;
@@ -23,6 +24,7 @@ mod units;
 pub use book::Book;
 pub use client::Client;
 pub use fault::{BookFault, LoadFault};
+pub use initial::first_unit;
 pub use policy::Policy;
 pub use site_requests::load;
 pub use units::{NewUnit, UnitChange};

@@ -45,7 +45,12 @@ impl Book {
     }
 
     // Where the policy stands.
-    fn check_list(&self, alloc: Global, policy: &Name, client: &Name) -> Result<usize, BookFault>
+    pub(crate) fn check_list(
+        &self,
+        alloc: Global,
+        policy: &Name,
+        client: &Name,
+    ) -> Result<usize, BookFault>
         ensures allows { Allows (client_list_refusals policy.now client.now self.now) result }
         ensures place { IfOk result (λ at. StandsAt policy_name self.now.policies policy.now at) }
     {
@@ -58,7 +63,12 @@ impl Book {
     }
 
     // Where the policy stands.
-    fn check_unlist(&self, alloc: Global, policy: &Name, client: &Name) -> Result<usize, BookFault>
+    pub(crate) fn check_unlist(
+        &self,
+        alloc: Global,
+        policy: &Name,
+        client: &Name,
+    ) -> Result<usize, BookFault>
         ensures allows { Allows (client_unlist_refusals policy.now client.now self.now) result }
         ensures place { IfOk result (λ at. StandsAt policy_name self.now.policies policy.now at) }
     {

@@ -80,7 +80,7 @@ impl Book {
         self.lifecycles.latest(name).is_some()
     }
 
-    fn check_policy_add(
+    pub(crate) fn check_policy_add(
         &self,
         alloc: Global,
         name: &Name,
@@ -97,7 +97,7 @@ impl Book {
     }
 
     // Where the policy stands.
-    fn check_policy_change(
+    pub(crate) fn check_policy_change(
         &self,
         alloc: Global,
         name: &Name,

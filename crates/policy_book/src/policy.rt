@@ -114,8 +114,8 @@ impl Policy {
         &self.schedules
     }
 
-    // A client is on its list.
-    pub(crate) fn lists(&self, client: &Name) -> bool
+    /// A client is on its list.
+    pub fn lists(&self, client: &Name) -> bool
         ensures { result ≡ has itself client.now self.now.clients }
     {
         find(&self.clients, client).is_some()

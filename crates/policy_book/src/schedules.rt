@@ -1,5 +1,7 @@
 // The schedules of a policy.
 ghost use Rattle.std.specs.Prelude.{◌&&◌, [], ◌∷◌, not, IfOk};
+ghost use Rattle.site_types.specs.declared.schedule.Mode.{Mode};
+ghost use Rattle.site_types.specs.declared.window.Windows.{Windows};
 ghost use Rattle.policy_book.specs.Places.{StandsAt};
 ghost use Rattle.policy_book.specs.Book.{policy_name};
 ghost use Rattle.policy_book.specs.Changes.{Applied, is_full, schedule_put, schedule_add_refusals, schedule_change_refusals, schedule_removed, schedule_remove_refusals};
@@ -25,7 +27,7 @@ impl Book {
     ) -> Result<(), BookFault>
         ensures { Applied (schedule_add_refusals policy.now schedule self.old) (schedule_put policy.now schedule self.old) self.old self.new result }
     {
-        let at = self.check_schedule_add(alloc, policy, &schedule)?;
+        let at = self.check_schedule_add(alloc, policy, &schedule.name, schedule.kind)?;
         self.policies[at].put_schedule(schedule)?;
         Ok(())
     }
@@ -40,7 +42,7 @@ impl Book {
     ) -> Result<(), BookFault>
         ensures { Applied (schedule_change_refusals policy.now schedule self.old) (schedule_put policy.now schedule self.old) self.old self.new result }
     {
-        let at = self.check_schedule_change(alloc, policy, &schedule)?;
+        let at = self.check_schedule_change(alloc, policy, &schedule.name, schedule.kind)?;
         self.policies[at].put_schedule(schedule)?;
         Ok(())
     }
@@ -59,44 +61,48 @@ impl Book {
         Ok(())
     }
 
-    // Where the policy stands.
-    fn check_schedule_add(
+    // Where the policy stands. Of the schedule only its name and its kind are looked at.
+    pub(crate) fn check_schedule_add(
         &self,
         alloc: Global,
         policy: &Name,
-        schedule: &Schedule,
+        schedule: &Name,
+        kind: Kind,
     ) -> Result<usize, BookFault>
-        ensures allows { Allows (schedule_add_refusals policy.now schedule.now self.now) result }
+        ensures allows { (mode : Mode) (windows : Windows)
+            → Allows (schedule_add_refusals policy.now (record { name = schedule.now; kind = kind; mode = mode; windows = windows }) self.now) result }
         ensures place { IfOk result (λ at. StandsAt policy_name self.now.policies policy.now at) }
     {
         let at = self.policy_place(alloc, policy)?;
         let found = &self.policies[at];
         let schedules = found.schedules();
         check_room(alloc, b"schedules", schedules.len(), SCHEDULE_LIMIT)?;
-        check_unlisted(alloc, schedules, policy, &schedule.name)?;
-        check_rule_8(found, schedule.kind)?;
+        check_unlisted(alloc, schedules, policy, schedule)?;
+        check_rule_8(found, kind)?;
         Ok(at)
     }
 
-    // Where the policy stands.
-    fn check_schedule_change(
+    // Where the policy stands. Of the schedule only its name and its kind are looked at.
+    pub(crate) fn check_schedule_change(
         &self,
         alloc: Global,
         policy: &Name,
-        schedule: &Schedule,
+        schedule: &Name,
+        kind: Kind,
     ) -> Result<usize, BookFault>
-        ensures allows { Allows (schedule_change_refusals policy.now schedule.now self.now) result }
+        ensures allows { (mode : Mode) (windows : Windows)
+            → Allows (schedule_change_refusals policy.now (record { name = schedule.now; kind = kind; mode = mode; windows = windows }) self.now) result }
         ensures place { IfOk result (λ at. StandsAt policy_name self.now.policies policy.now at) }
     {
         let at = self.policy_place(alloc, policy)?;
         let found = &self.policies[at];
-        check_listed(alloc, found.schedules(), policy, &schedule.name)?;
-        check_rule_8(found, schedule.kind)?;
+        check_listed(alloc, found.schedules(), policy, schedule)?;
+        check_rule_8(found, kind)?;
         Ok(at)
     }
 
     // Where the policy stands.
-    fn check_schedule_remove(
+    pub(crate) fn check_schedule_remove(
         &self,
         alloc: Global,
         policy: &Name,

@@ -39,7 +39,12 @@ impl Book {
     }
 
     // Where the policy stands.
-    fn check_select(&self, alloc: Global, policy: &Name, path: &Text) -> Result<usize, BookFault>
+    pub(crate) fn check_select(
+        &self,
+        alloc: Global,
+        policy: &Name,
+        path: &Text,
+    ) -> Result<usize, BookFault>
         ensures allows { Allows (select_refusals policy.now path.now self.now) result }
         ensures place { IfOk result (λ at. StandsAt policy_name self.now.policies policy.now at) }
     {
@@ -56,7 +61,12 @@ impl Book {
     }
 
     // Where the policy stands.
-    fn check_unselect(&self, alloc: Global, policy: &Name, path: &Text) -> Result<usize, BookFault>
+    pub(crate) fn check_unselect(
+        &self,
+        alloc: Global,
+        policy: &Name,
+        path: &Text,
+    ) -> Result<usize, BookFault>
         ensures allows { Allows (unselect_refusals policy.now path.now self.now) result }
         ensures place { IfOk result (λ at. StandsAt policy_name self.now.policies policy.now at) }
     {

@@ -1,4 +1,6 @@
-ghost use Rattle.std.specs.Prelude.{◌≡◌};
+ghost use Rattle.std.specs.Prelude.{◌≡◌, IfOk};
+ghost use Rattle.policy_book.specs.Places.{StandsAt};
+ghost use Rattle.policy_book.specs.Book.{unit_name};
 ghost use Rattle.policy_book.specs.Changes.{Applied, unit_added, unit_add_refusals, unit_changed, unit_change_refusals, unit_with};
 ghost use Rattle.policy_book.specs.Refusals.{Allows};
 
@@ -66,16 +68,24 @@ impl Book {
     ) -> Result<(), BookFault>
         ensures { Applied (unit_change_refusals name.now self.old) (unit_changed name.now change self.old) self.old self.new result }
     {
-        let at = known_place(alloc, &self.units, name)?;
+        let at = self.check_unit_change(alloc, name)?;
         apply(&mut self.units[at], change);
         Ok(())
     }
 
-    fn check_unit_add(&self, alloc: Global, name: &Name) -> Result<(), BookFault>
+    pub(crate) fn check_unit_add(&self, alloc: Global, name: &Name) -> Result<(), BookFault>
         ensures { Allows (unit_add_refusals name.now self.now) result }
     {
         check_room(alloc, b"units", self.units.len(), UNIT_LIMIT)?;
         check_new(alloc, &self.units, name)
+    }
+
+    // Where the unit stands.
+    pub(crate) fn check_unit_change(&self, alloc: Global, name: &Name) -> Result<usize, BookFault>
+        ensures allows { Allows (unit_change_refusals name.now self.now) result }
+        ensures place { IfOk result (λ at. StandsAt unit_name self.now.units name.now at) }
+    {
+        known_place(alloc, &self.units, name)
     }
 }
 

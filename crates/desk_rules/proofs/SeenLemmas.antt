@@ -1,0 +1,76 @@
+-- What is seen of a state.
+use Rattle.std.proofs.Common.{◌≡◌, ◌∙◌, List, [], ◌∷◌, ◌++◌, Option, None, Some, map, sym, ap, refl, ℕ}
+use Rattle.std.specs.Prelude.{unwrap_or, codes}
+use Rattle.site_types.specs.Ids.{id_text}
+use Rattle.site_types.specs.declared.id.BackupId.{BackupId}
+use Rattle.site_types.specs.declared.answer.Answer.{Answer}
+use Rattle.site_types.specs.declared.answer.Answer.TheVariants.{Done}
+use Rattle.site_types.specs.declared.schedule.Schedule.{Schedule}
+use Rattle.site_types.specs.declared.image.Base.TheVariants as base
+use Rattle.desk_rules.specs.declared.decision.Decision.{Decision}
+use Rattle.desk_rules.specs.declared.decision.Change.TheVariants.{SealNow}
+use Rattle.desk_rules.specs.declared.decision.JobBody.{JobBody}
+use Rattle.desk_rules.specs.declared.decision.JobBody.TheVariants.{Backup}
+use Rattle.site_types.specs.declared.image.ImageRecord.{ImageRecord}
+use Rattle.site_types.specs.declared.request.Request.{Request}
+use Rattle.site_types.specs.declared.request.Request.TheVariants.{ClientRemove, PolicyRemove}
+use Rattle.image_catalogue.specs.Images.{first_of_client, first_under}
+use Rattle.desk_model.specs.declared.site.Site.{Site}
+use Rattle.desk_model.specs.State.{State, entries}
+use Rattle.desk_model.specs.Settings.{use_refusals, used_by}
+use Rattle.policy_book.specs.Book.{Policy, adhoc, manual}
+use Rattle.desk_model.specs.Backups.{Asked, backup_refusals, client_refusals, latest_version, new_time, policy_asked, schedule_asked}
+use Rattle.desk_model.specs.Refusals.{first_refusal}
+use Rattle.desk_rules.specs.Decisions.{backup_body}
+use Rattle.desk_rules.specs.Refusing.{settled}
+use Rattle.desk_rules.specs.Seen.{backup_answer, blank, room_under, seen}
+
+pub entries_seen : (images : List ImageRecord) → entries (map blank images) ≡ images
+entries_seen [] = refl
+entries_seen (i ∷ images) = ap (λ (is : List ImageRecord). i ∷ is) (entries_seen images)
+
+pub client_use : (site : Site) (images : List ImageRecord) (request : Request) (name : List ℕ) (found : Option ImageRecord) → request ≡ ClientRemove name → found ≡ first_of_client name images → use_refusals request (seen site images) ≡ used_by name found None
+client_use site images request name found is first =
+    ap (λ (r : Request). use_refusals r (seen site images)) is
+    ∙ ap (λ (is : List ImageRecord). used_by name (first_of_client name is) None) (entries_seen images)
+    ∙ ap (λ (i : Option ImageRecord). used_by name i None) (sym first)
+
+pub policy_use : (site : Site) (images : List ImageRecord) (request : Request) (name : List ℕ) (found : Option ImageRecord) → request ≡ PolicyRemove name → found ≡ first_under name images → use_refusals request (seen site images) ≡ used_by name found None
+policy_use site images request name found is first =
+    ap (λ (r : Request). use_refusals r (seen site images)) is
+    ∙ ap (λ (is : List ImageRecord). used_by name (first_under name is) None) (entries_seen images)
+    ∙ ap (λ (i : Option ImageRecord). used_by name i None) (sym first)
+
+-- the refusals of a backup under its policy
+pub backup_seen : (site : Site) (images : List ImageRecord) (asked : Asked) (policy : Policy) (moment : ℕ) → policy_asked asked (seen site images) ≡ Some policy
+    → backup_refusals asked moment (seen site images) ≡ client_refusals asked (policy_asked asked (seen site images)) (seen site images) ++ room_under policy asked images moment (seen site images)
+backup_seen site images asked policy moment found =
+    let s = seen site images in
+    ap (λ (p : Option Policy). client_refusals asked (policy_asked asked s) s ++ room_under (unwrap_or p adhoc) asked (entries s.images) moment s) found
+    ∙ ap (λ (is : List ImageRecord). client_refusals asked (policy_asked asked s) s ++ room_under policy asked is moment s) (entries_seen images)
+
+-- the body of a backup under a policy and a schedule
+abbrev body_under : Asked → ℕ → State → Policy → Schedule → JobBody
+body_under asked moment s policy schedule =
+    Backup (record { client = asked.client; time = new_time asked.client moment s }) policy.name schedule.name schedule.kind base.None policy.lifecycle (latest_version policy.lifecycle s.site.book) asked.size
+
+-- a backup that nothing refuses
+pub made_settles : (asked : Asked) (policy : Policy) (schedule : Schedule) (moment : ℕ) (s : State) (id : BackupId) (answer : Answer) (body : JobBody)
+    → policy_asked asked s ≡ Some policy
+    → schedule_asked asked s ≡ Some schedule
+    → first_refusal (backup_refusals asked moment s) ≡ None
+    → id ≡ record { client = asked.client; time = new_time asked.client moment s }
+    → answer ≡ Done (id_text id ++ codes "\n")
+    → body ≡ Backup id policy.name schedule.name schedule.kind base.None policy.lifecycle (latest_version policy.lifecycle s.site.book) asked.size
+    → record { answer = answer; change = SealNow body } ≡ settled (first_refusal (backup_refusals asked moment s)) (backup_answer asked moment s) (SealNow (backup_body asked moment s))
+made_settles asked policy schedule moment s id answer body found chosen none is said made =
+    let answered : answer ≡ backup_answer asked moment s = said ∙ ap (λ (i : BackupId). Done (id_text i ++ codes "\n")) is in
+    let under : body_under asked moment s policy schedule ≡ backup_body asked moment s =
+    λ j. body_under asked moment s (unwrap_or (sym found j) adhoc) (unwrap_or (sym chosen j) manual) in
+    let whole : body ≡ backup_body asked moment s =
+    made
+    ∙ ap (λ (i : BackupId). Backup i policy.name schedule.name schedule.kind base.None policy.lifecycle (latest_version policy.lifecycle s.site.book) asked.size) is
+    ∙ under in
+    let decided : record { answer = answer; change = SealNow body } ≡ settled None (backup_answer asked moment s) (SealNow (backup_body asked moment s)) =
+    λ j. record { answer = answered j; change = SealNow (whole j) } in
+    decided ∙ ap (λ (o : Option Answer). settled o (backup_answer asked moment s) (SealNow (backup_body asked moment s))) (sym none)
