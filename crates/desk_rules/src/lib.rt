@@ -1,6 +1,7 @@
 //! What the rules of a site ask for: what requests are answered and what they change, and the backups that are due.
 #![tactic(auto)]
 
+mod deciding;
 mod decision;
 mod due_list;
 mod foremost;
@@ -9,6 +10,7 @@ mod last_times;
 #[cfg(test)]
 mod tests;
 
+pub use deciding::decide;
 pub use decision::{Change, Decision, JobBody};
 pub use due_list::due_backups;
 

@@ -6,5 +6,6 @@ mod extents;
 mod image;
 mod known;
 mod record;
+mod zone;
 
 pub use desk::Desk;
