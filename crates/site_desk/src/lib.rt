@@ -6,6 +6,7 @@ mod extents;
 mod image;
 mod known;
 mod record;
+mod replay;
 mod setting;
 
 pub use desk::Desk;
