@@ -3,7 +3,7 @@ use Rattle.std.proofs.Common.{◌≡◌, ◌<◌, ◌≤◌, ◌+◌, ℕ, zero,
 use Rattle.std.specs.Prelude.{Option, if◌then◌else◌, ◌&&◌, not, nat_lt, is_some, is_none, option_and_then, Contains}
 use Rattle.std.specs.Result.{result_ok}
 use Rattle.std.specs.Str.{bytes_eq}
-use Rattle.std.proofs.lemmas.List.{at_drop_more, at_drop_all}
+use Rattle.std.proofs.lemmas.List.{at_drop_more, at_drop_all, drop_all}
 use Rattle.std.proofs.lemmas.Bool.Decides.{nat_tests}
 use Rattle.std.proofs.lemmas.List.{length-map}
 use Rattle.site_types.specs.Lines.{line_of, read_line}
@@ -15,17 +15,18 @@ use Rattle.pool_journal.specs.declared.entry.Entry.{Entry}
 use Rattle.pool_journal.specs.declared.entry.Entry.TheVariants as entry
 use Rattle.pool_journal.specs.declared.entry.WholeImage.{WholeImage}
 use Rattle.pool_journal.specs.declared.records.Placed.{Placed}
-use Rattle.pool_journal.specs.Records.{Found, placed_of}
+use Rattle.pool_journal.specs.Records.{Found, placed, placed_of}
 use Rattle.desk_model.specs.declared.site.Site.{Site}
 use Rattle.policy_book.specs.Changes.{client_sealed}
 use Rattle.image_catalogue.specs.Images.{record_named, with_record}
-use Rattle.desk_model.specs.State.{State, Image, Stored, entries, has_image, with_image}
+use Rattle.desk_model.specs.Site.{initial_site}
+use Rattle.desk_model.specs.State.{State, initial, Image, Stored, entries, has_image, with_image}
 use Rattle.desk_model.specs.Refusals.{first_refusal}
 use Rattle.desk_model.specs.Backups.{image_limit, sealed}
 use Rattle.desk_model.specs.Settings.{is_setting, setting_refusals, site_after, stored_after, set_by}
-use Rattle.site_desk.specs.Stands.{image_fits, whole_entry, whole_image, whole_unit, settled_as, settled_by, settled, apply_entry, apply}
+use Rattle.site_desk.specs.Stands.{image_fits, whole_entry, whole_image, whole_unit, settled_as, settled_by, settled, apply_entry, apply, applied_from, applied}
 use Rattle.site_desk.specs.Extents.{Adds}
-use Rattle.site_desk.specs.Known.{built, Remembers, IsSet}
+use Rattle.site_desk.specs.Known.{built, Remembers, IsSet, Makes}
 use Rattle.site_desk.specs.Replays.{HasLength, setting_as, setting_of, Reaches, IsReached}
 use Rattle.site_desk.specs.declared.extents.Extent.{Extent}
 use Rattle.site_desk.specs.declared.known.Known.{Known}
@@ -175,3 +176,73 @@ module _ (records : List Found) (all : Option State) (lines : List (List ℕ)) (
 
   pub all_settled : (known : Known) → length lines ≤ i → SettledSoFar records all (drop i lines) known → Reaches records all known
   all_settled known past far = record { images = far.images; stored = far.stored; made = far.so_far ∙ at_drop_all (settled (built known.site far.images far.stored)) lines i past; remembers = far.remembers }
+
+-- Records.
+
+-- the record at an index
+record_at : (records : List Found) (i : ℕ) (p : Placed) → i < length (placed records) → p ≡ get_or (placed records) i p → (f : Found) × (drop i records ≡ f ∷ drop (i + 1) records) × (placed_of f ≡ p) × Contains records f
+record_at [] i p lt is = absurd (omega arith)
+record_at (f ∷ records) zero p lt is = (f, ap (λ (l : List Found). f ∷ l) (sym (drop-one f records)), sym is, (0, omega arith, refl))
+  where
+    drop-one : (g : Found) (gs : List Found) → drop 1 (g ∷ gs) ≡ gs
+    drop-one g gs = refl
+record_at (f ∷ records) (suc i) p lt is =
+    let inner = record_at records i p (omega arith) is in
+    let k : ℕ = inner.3.0 in
+    (inner.0, inner.1 ∙ ap (λ (k : ℕ). inner.0 ∷ drop k (f ∷ records)) (let k_is : suc (i + 1) ≡ suc i + 1 = omega arith in k_is), inner.2, (suc k, omega (arith, inner.3.1), inner.3.2))
+
+applied_any : (a b : ℕ) (s : State) (fs : List Found) → applied_from a (Some s) fs ≡ applied_from b (Some s) fs
+applied_any a b s [] = refl
+applied_any a b s (f ∷ fs) = refl
+
+-- of the state that the records up to an index make this is known
+pub record SoFar (records : List Found) (known : Known) (i : ℕ) : Type 0 where
+  pub images : List Image
+  pub stored : List Stored
+  pub so_far : applied initial records ≡ applied_from 0 (Some (built known.site images stored)) (drop i records)
+  pub remembers : Remembers records known images
+
+-- before the first record
+pub nothing_yet : (records : List Found) (known : Known) → known.site ≡ initial_site → Remembers records known [] → SoFar records known 0
+nothing_yet records known site remembers = record {
+  images = [];
+  stored = initial.stored;
+  so_far = ap (λ (s : Site). applied_from 0 (Some (built s [] initial.stored)) records) (sym site);
+  remembers = remembers;
+}
+
+module _ (records : List Found) (known known' : Known) (i : ℕ) (p : Placed) (done : Bool) (far : SoFar records known i) (lt : i < length (placed records)) (is : p ≡ get_or (placed records) i p)
+    (reached : (f : Found) → Contains records f → placed_of f ≡ p → IsReached records (apply (built known.site far.images far.stored) f.is) known' done) where
+  abbrev here : (f : Found) × (drop i records ≡ f ∷ drop (i + 1) records) × (placed_of f ≡ p) × Contains records f
+  here = record_at records i p lt is
+
+  at_record : applied initial records ≡ applied_from here.0.at (apply (built known.site far.images far.stored) here.0.is) (drop (i + 1) records)
+  at_record = far.so_far ∙ ap (λ (l : List Found). applied_from 0 (Some (built known.site far.images far.stored)) l) here.1
+
+  -- the next record doesn't fit
+  pub unfit_at : done ≡ false → applied initial records ≡ Err p.at
+  unfit_at failed =
+      at_record
+      ∙ ap (λ (o : Option State). applied_from here.0.at o (drop (i + 1) records)) (subst (IsReached records (apply (built known.site far.images far.stored) here.0.is) known') failed (reached here.0 here.3 here.2))
+      ∙ ap (λ (q : Placed). Err q.at) here.2
+
+  -- it does
+  pub fit_at : done ≡ true → SoFar records known' (i + 1)
+  fit_at good =
+      let next : Reaches records (apply (built known.site far.images far.stored) here.0.is) known' = subst (IsReached records (apply (built known.site far.images far.stored) here.0.is) known') good (reached here.0 here.3 here.2) in
+      record {
+        images = next.images;
+        stored = next.stored;
+        so_far = at_record ∙ ap (λ (o : Option State). applied_from here.0.at o (drop (i + 1) records)) next.made
+            ∙ applied_any here.0.at 0 (built known'.site next.images next.stored) (drop (i + 1) records);
+        remembers = next.remembers;
+      }
+
+-- all records were replayed
+pub all_replayed : (records : List Found) (known : Known) (i : ℕ) → length (placed records) ≤ i → SoFar records known i → Makes known records
+all_replayed records known i past far = record {
+  images = far.images;
+  stored = far.stored;
+  made = far.so_far ∙ ap (λ (l : List Found). applied_from 0 (Some (built known.site far.images far.stored)) l) (drop_all i records (omega (arith, length-map records placed_of)));
+  remembers = far.remembers;
+}
