@@ -5,6 +5,7 @@ mod desk;
 mod extents;
 mod image;
 mod known;
+mod open;
 mod record;
 mod replay;
 mod setting;
