@@ -1,5 +1,6 @@
 pub mod Stands
 pub mod Extents
 pub mod Known
+pub mod Replays
 pub mod Desk
 pub mod Restores

@@ -5,7 +5,10 @@ mod desk;
 mod extents;
 mod image;
 mod known;
+mod open;
 mod record;
 mod zone;
+mod replay;
+mod setting;
 
 pub use desk::Desk;
