@@ -1,5 +1,7 @@
 pub mod ImageLemmas
 pub mod Admitting
+pub mod NamedLemmas
+pub mod SiteChanges
 pub mod ExtentLemmas
 pub mod SizedRecords
 pub mod Opening

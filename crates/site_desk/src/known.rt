@@ -6,7 +6,7 @@ ghost use Rattle.image_catalogue.specs.Images.{record_named, with_record};
 ghost use Rattle.desk_model.specs.State.{Image, Stored};
 ghost use Rattle.desk_model.specs.Settings.{is_setting, site_after};
 ghost use Rattle.site_desk.specs.Extents.{Adds};
-ghost use Rattle.site_desk.specs.Known.{built, Remembers, IsSet, SameKnown};
+ghost use Rattle.site_desk.specs.Known.{built, Remembers, IsSet, SameKnown, is_settings};
 
 use crate::extents::{Extent, Extents};
 use crate::zone::zone_given;
@@ -35,13 +35,11 @@ impl Known {
         ensures unchanged { OnErr result (self.new ≡ self.old) }
     {
         let decision = decide(alloc, &self.site, &self.catalogue, request, 0, 0)?;
-        match decision.change {
-            Change::Settings => {
-                change_site(alloc, &mut self.site, request)?;
-                Ok(None)
-            }
-            Change::Nothing | Change::Load | Change::SealNow { .. } => Ok(Some(decision.answer)),
+        if !changes_site(&decision.change) {
+            return Ok(Some(decision.answer));
         }
+        change_site(alloc, &mut self.site, request)?;
+        Ok(None)
     }
 
     /// Takes in an image that isn't there: its client's last id time is raised, and a client that isn't there is added. Without
@@ -55,11 +53,12 @@ impl Known {
     {
         let id = image.id.copy(alloc)?;
         self.extents.add(image.id.copy(alloc)?, extent)?;
-        let added = add_image(alloc, &mut self.site.book, &mut self.catalogue, image, &id);
-        if added.is_err() {
+        let book = &mut self.site.book;
+        if let Err(fault) = add_image(alloc, book, &mut self.catalogue, image, &id) {
             self.extents.remove(&id);
+            return Err(fault);
         }
-        added
+        Ok(())
     }
 }
 
@@ -83,6 +82,12 @@ fn add_image(
         catalogue.remove_image(id);
     }
     sealed
+}
+
+fn changes_site(change: &Change) -> bool
+    ensures { result ≡ is_settings change.now }
+{
+    matches!(change, Change::Settings)
 }
 
 // Makes the change of a request that nothing refuses.
