@@ -15,6 +15,7 @@ mod settings;
 #[cfg(test)]
 mod tests;
 
+pub use deciding::decide;
 pub use decision::{Change, Decision, JobBody};
 pub use due_list::due_backups;
 

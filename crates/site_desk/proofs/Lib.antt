@@ -2,6 +2,10 @@ pub mod Admitting
 pub mod ExtentLemmas
 pub mod ImageLemmas
 pub mod Knowing
+pub mod NamedLemmas
+pub mod SiteChanges
+pub mod SizedRecords
+pub mod Opening
 pub mod ReplayLemmas
 pub mod Restoring
 pub mod Standings

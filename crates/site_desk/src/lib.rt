@@ -11,6 +11,9 @@ mod load;
 mod prepare;
 mod record;
 mod restore;
+mod open;
+mod zone;
+mod replay;
 mod setting;
 mod step;
 
