@@ -5,6 +5,7 @@ mod asked;
 mod backup_clients;
 mod backup_room;
 mod backups;
+mod deciding;
 mod decision;
 mod due_list;
 mod foremost;
