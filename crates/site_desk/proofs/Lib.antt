@@ -1,9 +1,12 @@
 pub mod Admitting
+pub mod Changing
 pub mod ExtentLemmas
 pub mod ImageLemmas
 pub mod Knowing
+pub mod Refusing
 pub mod ReplayLemmas
 pub mod Restoring
+pub mod SettingLines
 pub mod Standings
 pub mod States
 pub mod Writing

@@ -7,6 +7,7 @@ mod desk;
 mod extents;
 mod image;
 mod known;
+mod lines;
 mod load;
 mod prepare;
 mod record;
