@@ -4,3 +4,4 @@ pub mod FilterLemmas
 pub mod DueLemmas
 pub mod RefusalLemmas
 pub mod SeenLemmas
+pub mod DecisionLemmas

@@ -1,5 +1,5 @@
 -- The first refusal of a list.
-use Rattle.std.proofs.Common.{◌≡◌, ◌∙◌, Bool, true, false, cond, List, [], ◌∷◌, ◌++◌, Option, Some, None, Result, Ok, Err, map, sym, ap, refl, subst, inl, inr}
+use Rattle.std.proofs.Common.{◌≡◌, ◌∙◌, Bool, true, false, List, [], ◌∷◌, ◌++◌, Option, Some, None, Result, Ok, Err, map, sym, ap, refl, subst, inl, inr}
 use Rattle.std.specs.Prelude.{◌⊎◌, option_map, IfOk, IsErrAnd}
 use Rattle.std.specs.declared.alloc.AllocError.{AllocError}
 use Rattle.site_types.specs.declared.answer.Answer.{Answer}

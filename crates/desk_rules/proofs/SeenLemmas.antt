@@ -7,7 +7,6 @@ use Rattle.site_types.specs.declared.answer.Answer.{Answer}
 use Rattle.site_types.specs.declared.answer.Answer.TheVariants.{Done}
 use Rattle.site_types.specs.declared.schedule.Schedule.{Schedule}
 use Rattle.site_types.specs.declared.image.Base.TheVariants as base
-use Rattle.desk_rules.specs.declared.decision.Decision.{Decision}
 use Rattle.desk_rules.specs.declared.decision.Change.TheVariants.{SealNow}
 use Rattle.desk_rules.specs.declared.decision.JobBody.{JobBody}
 use Rattle.desk_rules.specs.declared.decision.JobBody.TheVariants.{Backup}

@@ -6,7 +6,7 @@ use Rattle.site_types.specs.declared.image.ImageRecord.{ImageRecord}
 use Rattle.site_types.specs.declared.image.Base.TheVariants as base
 use Rattle.site_types.specs.declared.request.Request.{Request}
 use Rattle.site_types.specs.declared.request.Request.TheVariants as request
-use Rattle.policy_book.specs.Book.{Policy, adhoc, manual}
+use Rattle.policy_book.specs.Book.{adhoc, manual}
 use Rattle.desk_model.specs.declared.site.Site.{Site}
 use Rattle.desk_model.specs.State.{State, Image, entries}
 use Rattle.desk_model.specs.Refusals.{first_refusal}

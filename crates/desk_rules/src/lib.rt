@@ -5,6 +5,7 @@ mod asked;
 mod backup_clients;
 mod backup_room;
 mod backups;
+mod deciding;
 mod decision;
 mod due_list;
 mod foremost;
@@ -15,6 +16,7 @@ mod settings;
 #[cfg(test)]
 mod tests;
 
+pub use deciding::decide;
 pub use decision::{Change, Decision, JobBody};
 pub use due_list::due_backups;
 
