@@ -3,10 +3,14 @@ pub mod Changing
 pub mod ExtentLemmas
 pub mod ImageLemmas
 pub mod Knowing
+pub mod NamedLemmas
+pub mod Opening
 pub mod Refusing
 pub mod ReplayLemmas
 pub mod Restoring
 pub mod SettingLines
+pub mod SiteChanges
+pub mod SizedRecords
 pub mod Standings
 pub mod States
 pub mod Writing

@@ -1,21 +1,102 @@
 -- Replaying records one by one.
 use Rattle.std.proofs.Common.{◌≡◌, ◌<◌, ◌≤◌, ◌+◌, ℕ, zero, suc, List, [], ◌∷◌, length, drop, get_or, Bool, true, false, Some, None, Err, refl, sym, ◌∙◌, ap, subst, arith}
-use Rattle.std.specs.Prelude.{Option, if◌then◌else◌, ◌&&◌, not, is_some, is_none, option_and_then, Contains}
+use Rattle.std.specs.Prelude.{Option, if◌then◌else◌, ◌&&◌, not, nat_lt, is_some, is_none, option_and_then, Contains}
 use Rattle.std.specs.Result.{result_ok}
 use Rattle.std.specs.Str.{bytes_eq}
-use Rattle.std.proofs.lemmas.List.{at_drop_more, at_drop_all}
+use Rattle.std.proofs.lemmas.List.{at_drop_more, at_drop_all, drop_all}
+use Rattle.std.proofs.lemmas.Bool.Decides.{nat_tests}
+use Rattle.std.proofs.lemmas.List.{length-map}
 use Rattle.site_types.specs.Lines.{line_of, read_line}
 use Rattle.site_types.specs.declared.answer.Answer.{Answer}
+use Rattle.site_types.specs.declared.id.BackupId.{BackupId}
+use Rattle.site_types.specs.declared.image.ImageRecord.{ImageRecord}
 use Rattle.site_types.specs.declared.request.Request.{Request}
-use Rattle.pool_journal.specs.Records.{Found}
+use Rattle.pool_journal.specs.declared.entry.Entry.{Entry}
+use Rattle.pool_journal.specs.declared.entry.Entry.TheVariants as entry
+use Rattle.pool_journal.specs.declared.entry.WholeImage.{WholeImage}
+use Rattle.pool_journal.specs.declared.records.Placed.{Placed}
+use Rattle.pool_journal.specs.Records.{Found, placed, placed_of}
 use Rattle.desk_model.specs.declared.site.Site.{Site}
-use Rattle.desk_model.specs.State.{State, Image, Stored}
+use Rattle.policy_book.specs.Changes.{client_sealed}
+use Rattle.image_catalogue.specs.Images.{record_named, with_record}
+use Rattle.desk_model.specs.Site.{initial_site}
+use Rattle.desk_model.specs.State.{State, initial, Image, Stored, entries, has_image, with_image}
 use Rattle.desk_model.specs.Refusals.{first_refusal}
+use Rattle.desk_model.specs.Backups.{image_limit, sealed}
 use Rattle.desk_model.specs.Settings.{is_setting, setting_refusals, site_after, stored_after, set_by}
-use Rattle.site_desk.specs.Stands.{settled_as, settled_by, settled}
-use Rattle.site_desk.specs.Known.{built, Remembers, IsSet}
-use Rattle.site_desk.specs.Replays.{setting_as, setting_of, Reaches, IsReached}
+use Rattle.site_desk.specs.Stands.{image_fits, whole_entry, whole_image, whole_unit, settled_as, settled_by, settled, apply_entry, apply, applied_from, applied}
+use Rattle.site_desk.specs.Extents.{Adds}
+use Rattle.site_desk.specs.Known.{built, Remembers, IsSet, Makes}
+use Rattle.site_desk.specs.Replays.{HasLength, setting_as, setting_of, Reaches, IsReached}
+use Rattle.site_desk.specs.declared.extents.Extent.{Extent}
 use Rattle.site_desk.specs.declared.known.Known.{Known}
+use Rattle.site_desk.proofs.Admitting.{has_entry, admitted}
+
+-- A record as it was read.
+
+pub entry_of : (f : Found) (p : Placed) → placed_of f ≡ p → f.is.entry ≡ p.entry
+entry_of f p is = ap (λ (q : Placed). q.entry) is
+
+pub length_of : (f : Found) (w : WholeImage) → f.is.entry ≡ entry.WholeImage w → HasLength f.is.entry (length f.is.bytes) → w.length ≡ length f.is.bytes
+length_of f w is has = subst (λ (e : Entry). HasLength e (length f.is.bytes)) is has
+
+-- Images.
+
+none_not : {A : Type 0} (o : Option A) → is_none o ≡ not (is_some o)
+none_not None = refl
+none_not (Some a) = refl
+
+entries_length : (images : List Image) → length (entries images) ≡ length images
+entries_length images = length-map images (λ i. i.entry)
+
+-- an image isn't there, and there is room for it
+pub has_room : (id : BackupId) (images : List Image) (catalogue : List ImageRecord) → entries images ≡ catalogue → (nat_lt (length catalogue) image_limit && is_none (record_named id catalogue)) ≡ (nat_lt (length images) image_limit && not (has_image id images))
+has_room id images catalogue listed =
+    λ i. nat_lt (count i) image_limit && (ap (λ (l : List ImageRecord). is_none (record_named id l)) (sym listed) ∙ none_not (record_named id (entries images)) ∙ ap (λ (b : Bool). not b) (has_entry id images)) i
+  where
+    count : length catalogue ≡ length images
+    count = ap (λ (l : List ImageRecord). length l) (sym listed) ∙ entries_length images
+
+pub has_room_so : (id : BackupId) (images : List Image) (catalogue : List ImageRecord) (count : ℕ) (new : Bool) → entries images ≡ catalogue → count ≡ length catalogue → count < image_limit → new ≡ is_none (record_named id catalogue) → new ≡ (nat_lt (length images) image_limit && not (has_image id images))
+has_room_so id images catalogue count new listed count_is below new_is =
+    let few : nat_lt (length catalogue) image_limit ≡ true = grind (arith, nat_tests, count_is, below) in
+    new_is ∙ (λ i. sym few i && is_none (record_named id catalogue)) ∙ has_room id images catalogue listed
+
+fitting : (b : Bool) (s : State) → b ≡ true → (if b then Some s else None) ≡ Some s
+fitting b s is = λ i. if is i then Some s else None
+
+unfitting : (b : Bool) (s : State) → b ≡ false → (if b then Some s else None) ≡ None
+unfitting b s is = λ i. if is i then Some s else None
+
+applied_image : (s : State) (f : Found) (w : WholeImage) → f.is.entry ≡ entry.WholeImage w → apply s f.is ≡ (if image_fits s w then Some (sealed (whole_image s w f.is.bytes) (whole_unit s w) s) else None)
+applied_image s f w is = ap (λ (e : Entry). apply_entry s e f.is.bytes) is
+
+pub image_unfit : (s : State) (f : Found) (w : WholeImage) (fits : Bool) → f.is.entry ≡ entry.WholeImage w → fits ≡ image_fits s w → fits ≡ false → apply s f.is ≡ None
+image_unfit s f w fits is fits_is differs = applied_image s f w is ∙ unfitting (image_fits s w) _ (sym fits_is ∙ differs)
+
+pub image_taken : (records : List Found) (images : List Image) (stored : List Stored) (f : Found) (w : WholeImage) (extent : Extent) (taken : ImageRecord) (fits : Bool) (old new : Known) → Contains records f → f.is.entry ≡ entry.WholeImage w → w.length ≡ length f.is.bytes → extent.from ≡ f.from → extent.length ≡ length f.is.bytes → Remembers records old images
+    → fits ≡ image_fits (built old.site images stored) w → fits ≡ true → record_named w.id old.catalogue ≡ None → taken ≡ whole_entry old.site.book w → new.site ≡ record (old.site) { book = client_sealed taken.id.client taken.id.time old.site.book } → new.catalogue ≡ with_record taken old.catalogue → Adds taken.id extent old.extents new.extents
+    → Reaches records (apply (built old.site images stored) f.is) new
+image_taken records images stored f w extent taken fits old new among is length_is from size remembers fits_is good lacking taken_is site catalogue adds = record {
+  images = with_image image images;
+  stored = next.stored;
+  made = applied_image before f w is ∙ fitting (image_fits before w) next (sym fits_is ∙ good) ∙ ap (λ (s : Site). Some (built s (with_image image images) next.stored)) (sym site_is);
+  remembers = admitted records records old new images image extent (λ f there. there) remembers lacking length_is
+      (record { place = f; among = among; from = from; size = size; bytes = refl; copy = _; copies = refl; number = refl; primary = refl }) site_is
+      (catalogue ∙ ap (λ (r : ImageRecord). with_record r old.catalogue) taken_is) (subst (λ (r : ImageRecord). Adds r.id extent old.extents new.extents) taken_is adds);
+}
+  where
+    before : State
+    before = built old.site images stored
+
+    image : Image
+    image = whole_image before w f.is.bytes
+
+    next : State
+    next = sealed image (whole_unit before w) before
+
+    site_is : new.site ≡ record (old.site) { book = client_sealed w.id.client w.id.time old.site.book }
+    site_is = site ∙ ap (λ (r : ImageRecord). record (old.site) { book = client_sealed r.id.client r.id.time old.site.book }) taken_is
 
 -- Lines of settings.
 
@@ -65,6 +146,9 @@ line_settled records images stored line request refusal done old new is done_is 
     at (Some answer) true some so = absurd (cc so)
     at (Some answer) false some so = with_refusal ∙ ap (unless_refused s request) some
 
+pub applied_settings : (s : State) (f : Found) (p : Placed) (lines read : List (List ℕ)) → placed_of f ≡ p → p.entry ≡ entry.Settings lines → read ≡ lines → settled s read ≡ apply s f.is
+applied_settings s f p lines read is entry_is read_is = ap (λ (l : List (List ℕ)). settled s l) read_is ∙ sym (ap (λ (e : Entry). apply_entry s e f.is.bytes) (entry_of f p is ∙ entry_is))
+
 -- the lines so far were settled, and of the state that they make this is known
 pub record SettledSoFar (records : List Found) (all : Option State) (rest : List (List ℕ)) (known : Known) : Type 0 where
   pub images : List Image
@@ -73,22 +157,92 @@ pub record SettledSoFar (records : List Found) (all : Option State) (rest : List
   pub remembers : Remembers records known images
 
 module _ (records : List Found) (all : Option State) (lines : List (List ℕ)) (i : ℕ) where
-  with_line : (line : List ℕ) (known : Known) (far : SettledSoFar records all (drop i lines) known) → i < length lines → line ≡ get_or lines i line → all ≡ option_and_then (λ t. settled t (drop (i + 1) lines)) (settled_by (built known.site far.images far.stored) line)
-  with_line line known far lt is = far.so_far ∙ at_drop_more (settled (built known.site far.images far.stored)) lines i line lt ∙ ap (λ (l : List ℕ). settled (built known.site far.images far.stored) (l ∷ drop (i + 1) lines)) (sym is)
+  with_line : (item line : List ℕ) (known : Known) (far : SettledSoFar records all (drop i lines) known) → i < length lines → item ≡ get_or lines i item → line ≡ item → all ≡ option_and_then (λ t. settled t (drop (i + 1) lines)) (settled_by (built known.site far.images far.stored) line)
+  with_line item line known far lt is same = far.so_far ∙ at_drop_more (settled (built known.site far.images far.stored)) lines i item lt ∙ ap (λ (l : List ℕ). settled (built known.site far.images far.stored) (l ∷ drop (i + 1) lines)) (sym is ∙ sym same)
 
-  pub next_settled : (line : List ℕ) (known known' : Known) (done : Bool) (far : SettledSoFar records all (drop i lines) known) → i < length lines → line ≡ get_or lines i line → done ≡ true → IsReached records (settled_by (built known.site far.images far.stored) line) known' done → SettledSoFar records all (drop (i + 1) lines) known'
-  next_settled line known known' done far lt is good reached =
+  pub next_settled : (item line : List ℕ) (known known' : Known) (done : Bool) (far : SettledSoFar records all (drop i lines) known) → i < length lines → item ≡ get_or lines i item → line ≡ item → done ≡ true → IsReached records (settled_by (built known.site far.images far.stored) line) known' done → SettledSoFar records all (drop (i + 1) lines) known'
+  next_settled item line known known' done far lt is same good reached =
       let next : Reaches records (settled_by (built known.site far.images far.stored) line) known' = subst (IsReached records (settled_by (built known.site far.images far.stored) line) known') good reached in
       record {
         images = next.images;
         stored = next.stored;
-        so_far = with_line line known far lt is ∙ ap (option_and_then (λ t. settled t (drop (i + 1) lines))) next.made;
+        so_far = with_line item line known far lt is same ∙ ap (option_and_then (λ t. settled t (drop (i + 1) lines))) next.made;
         remembers = next.remembers;
       }
 
-  pub unsettled : (line : List ℕ) (known known' : Known) (done : Bool) (far : SettledSoFar records all (drop i lines) known) → i < length lines → line ≡ get_or lines i line → done ≡ false → IsReached records (settled_by (built known.site far.images far.stored) line) known' done → all ≡ None
-  unsettled line known known' done far lt is failed reached =
-      with_line line known far lt is ∙ ap (option_and_then (λ t. settled t (drop (i + 1) lines))) (subst (IsReached records (settled_by (built known.site far.images far.stored) line) known') failed reached)
+  pub unsettled : (item line : List ℕ) (known known' : Known) (done : Bool) (far : SettledSoFar records all (drop i lines) known) → i < length lines → item ≡ get_or lines i item → line ≡ item → done ≡ false → IsReached records (settled_by (built known.site far.images far.stored) line) known' done → all ≡ None
+  unsettled item line known known' done far lt is same failed reached =
+      with_line item line known far lt is same ∙ ap (option_and_then (λ t. settled t (drop (i + 1) lines))) (subst (IsReached records (settled_by (built known.site far.images far.stored) line) known') failed reached)
 
   pub all_settled : (known : Known) → length lines ≤ i → SettledSoFar records all (drop i lines) known → Reaches records all known
   all_settled known past far = record { images = far.images; stored = far.stored; made = far.so_far ∙ at_drop_all (settled (built known.site far.images far.stored)) lines i past; remembers = far.remembers }
+
+-- Records.
+
+-- the record at an index
+record_at : (records : List Found) (i : ℕ) (p : Placed) → i < length (placed records) → p ≡ get_or (placed records) i p → (f : Found) × (drop i records ≡ f ∷ drop (i + 1) records) × (placed_of f ≡ p) × Contains records f
+record_at [] i p lt is = absurd (omega arith)
+record_at (f ∷ records) zero p lt is = (f, ap (λ (l : List Found). f ∷ l) (sym (drop-one f records)), sym is, (0, omega arith, refl))
+  where
+    drop-one : (g : Found) (gs : List Found) → drop 1 (g ∷ gs) ≡ gs
+    drop-one g gs = refl
+record_at (f ∷ records) (suc i) p lt is =
+    let inner = record_at records i p (omega arith) is in
+    let k : ℕ = inner.3.0 in
+    (inner.0, inner.1 ∙ ap (λ (k : ℕ). inner.0 ∷ drop k (f ∷ records)) (let k_is : suc (i + 1) ≡ suc i + 1 = omega arith in k_is), inner.2, (suc k, omega (arith, inner.3.1), inner.3.2))
+
+applied_any : (a b : ℕ) (s : State) (fs : List Found) → applied_from a (Some s) fs ≡ applied_from b (Some s) fs
+applied_any a b s [] = refl
+applied_any a b s (f ∷ fs) = refl
+
+-- of the state that the records up to an index make this is known
+pub record SoFar (records : List Found) (known : Known) (i : ℕ) : Type 0 where
+  pub images : List Image
+  pub stored : List Stored
+  pub so_far : applied initial records ≡ applied_from 0 (Some (built known.site images stored)) (drop i records)
+  pub remembers : Remembers records known images
+
+-- before the first record
+pub nothing_yet : (records : List Found) (known : Known) → known.site ≡ initial_site → Remembers records known [] → SoFar records known 0
+nothing_yet records known site remembers = record {
+  images = [];
+  stored = initial.stored;
+  so_far = ap (λ (s : Site). applied_from 0 (Some (built s [] initial.stored)) records) (sym site);
+  remembers = remembers;
+}
+
+module _ (records : List Found) (known known' : Known) (i : ℕ) (p : Placed) (done : Bool) (far : SoFar records known i) (lt : i < length (placed records)) (is : p ≡ get_or (placed records) i p)
+    (reached : (f : Found) → Contains records f → placed_of f ≡ p → IsReached records (apply (built known.site far.images far.stored) f.is) known' done) where
+  abbrev here : (f : Found) × (drop i records ≡ f ∷ drop (i + 1) records) × (placed_of f ≡ p) × Contains records f
+  here = record_at records i p lt is
+
+  at_record : applied initial records ≡ applied_from here.0.at (apply (built known.site far.images far.stored) here.0.is) (drop (i + 1) records)
+  at_record = far.so_far ∙ ap (λ (l : List Found). applied_from 0 (Some (built known.site far.images far.stored)) l) here.1
+
+  -- the next record doesn't fit
+  pub unfit_at : done ≡ false → applied initial records ≡ Err p.at
+  unfit_at failed =
+      at_record
+      ∙ ap (λ (o : Option State). applied_from here.0.at o (drop (i + 1) records)) (subst (IsReached records (apply (built known.site far.images far.stored) here.0.is) known') failed (reached here.0 here.3 here.2))
+      ∙ ap (λ (q : Placed). Err q.at) here.2
+
+  -- it does
+  pub fit_at : done ≡ true → SoFar records known' (i + 1)
+  fit_at good =
+      let next : Reaches records (apply (built known.site far.images far.stored) here.0.is) known' = subst (IsReached records (apply (built known.site far.images far.stored) here.0.is) known') good (reached here.0 here.3 here.2) in
+      record {
+        images = next.images;
+        stored = next.stored;
+        so_far = at_record ∙ ap (λ (o : Option State). applied_from here.0.at o (drop (i + 1) records)) next.made
+            ∙ applied_any here.0.at 0 (built known'.site next.images next.stored) (drop (i + 1) records);
+        remembers = next.remembers;
+      }
+
+-- all records were replayed
+pub all_replayed : (records : List Found) (known : Known) (i : ℕ) → length (placed records) ≤ i → SoFar records known i → Makes known records
+all_replayed records known i past far = record {
+  images = far.images;
+  stored = far.stored;
+  made = far.so_far ∙ ap (λ (l : List Found). applied_from 0 (Some (built known.site far.images far.stored)) l) (drop_all i records (omega (arith, length-map records placed_of)));
+  remembers = far.remembers;
+}

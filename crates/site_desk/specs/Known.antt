@@ -13,6 +13,8 @@ use Rattle.desk_model.specs.declared.site.Site.{Site}
 use Rattle.desk_model.specs.State.{State, Image, Stored, initial, entries, has_image}
 use Rattle.desk_model.specs.Refusals.{first_refusal}
 use Rattle.desk_model.specs.Settings.{setting_refusals, site_after}
+use Rattle.desk_rules.specs.declared.decision.Change.{Change}
+use Rattle.desk_rules.specs.declared.decision.Change.TheVariants.{Settings}
 use Rattle.site_desk.specs.Stands.{applied}
 use Rattle.site_desk.specs.Extents.{extent_of, Catalogued}
 use Rattle.site_desk.specs.declared.extents.Extent.{Extent}
@@ -39,6 +41,11 @@ pub record Remembers (records : List Found) (known : Known) (images : List Image
   pub sized : (i : Image) → Contains images i → i.entry.length ≡ length i.bytes
   pub below : TimesBelow known.site.book images
   pub whole : IsWhole known.site.book
+
+-- a decision is that the site changes
+abbrev pub is_settings : Change → Bool
+is_settings Settings = true
+is_settings _ = false
 
 -- a request that changes the site was carried out, or refused so
 pub record IsSet (s : State) (request : Request) (old new : Known) (refusal : Option Answer) : Type 0 where

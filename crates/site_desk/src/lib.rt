@@ -9,10 +9,13 @@ mod image;
 mod known;
 mod lines;
 mod load;
+mod open;
 mod prepare;
 mod record;
+mod replay;
 mod restore;
 mod setting;
 mod step;
+mod zone;
 
 pub use desk::Desk;

@@ -7,4 +7,4 @@ use Rattle.site_desk.proofs.ReplayLemmas.{SettledSoFar}
 use Rattle.site_desk.proofs.setting.settle_lines.Given as goal
 
 abbrev pub invariant-loop-line : goal.invariant-loop-line
-invariant-loop-line l = (records : List Found) (images : List Image) (stored : List Stored) → Remembers records l.fn.known.now images → SettledSoFar records (settled (built l.fn.known.now.site images stored) l.lines) (drop l.line-index l.lines) l.known
+invariant-loop-line l = (records : List Found) (images : List Image) (stored : List Stored) → Remembers records l.fn.known images → SettledSoFar records (settled (built l.fn.known.site images stored) l.lines) (drop l.line-index l.lines) l.known

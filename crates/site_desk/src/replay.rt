@@ -1,0 +1,181 @@
+// Replaying the entries of a journal.
+ghost use Rattle.std.specs.Prelude.{◌≡◌, ◌&&◌, ◌||◌, [], not, true, is_some, is_none, length, nat_le, nat_lt, List, None, IfOk, Contains};
+ghost use Rattle.site_types.specs.Limits.{last_moment};
+ghost use Rattle.slp_tree.specs.Lifecycles.{version_named};
+ghost use Rattle.policy_book.specs.Lists.{has};
+ghost use Rattle.policy_book.specs.Book.{client_limit, policy_name};
+ghost use Rattle.image_catalogue.specs.Images.{record_named};
+ghost use Rattle.pool_journal.specs.declared.entry.Entry.{Entry as EntryValue};
+ghost use Rattle.pool_journal.specs.declared.entry.Entry.TheVariants as entry;
+ghost use Rattle.pool_journal.specs.Records.{Found, placed, placed_of};
+ghost use Rattle.desk_model.specs.Site.{initial_site};
+ghost use Rattle.desk_model.specs.State.{Image, Stored, entries, has_image};
+ghost use Rattle.desk_model.specs.Backups.{image_limit, is_known, takes_all};
+ghost use Rattle.site_desk.specs.Stands.{apply, is_base_below, image_fits};
+ghost use Rattle.site_desk.specs.Known.{built, Remembers, IsReplayed};
+ghost use Rattle.site_desk.specs.Replays.{AreSized, IsReached};
+
+use crate::extents::{Extent, Extents};
+use crate::image::record_of;
+use crate::known::Known;
+use crate::setting::settle_lines;
+use desk_model::Site;
+use image_catalogue::Catalogue;
+use policy_book::Book;
+use pool_journal::{Entry, Placed, WholeImage};
+use schedule_windows::Zone;
+use site_types::{BackupId, Base, LAST_MOMENT, NoMemory};
+use std::alloc::{AllocError, Global};
+
+const IMAGE_LIMIT: u64 = 1_048_576;
+
+const CLIENT_LIMIT: usize = 1_024;
+
+fn is_new(catalogue: &Catalogue, id: &BackupId) -> bool
+    ensures { result ≡ is_none (record_named id.now catalogue.now) }
+{
+    catalogue.find(id).is_none()
+}
+
+// The image isn't there, and there is room for it.
+fn has_room(catalogue: &Catalogue, id: &BackupId) -> bool
+    ensures fits { (images : List Image) → entries images ≡ catalogue.now → result ≡ (nat_lt (length images) image_limit && not (has_image id.now images)) }
+    ensures new { result ≡ true → record_named id.now catalogue.now ≡ None }
+{
+    catalogue.count() < IMAGE_LIMIT && is_new(catalogue, id)
+}
+
+// The policy is there, and the version of the lifecycle.
+fn is_allowed(book: &Book, image: &WholeImage) -> bool
+    ensures { result ≡ (has policy_name image.now.policy book.now.policies && is_some (version_named image.now.lifecycle image.now.version book.now.lifecycles)) }
+{
+    book.policy(&image.policy).is_some()
+        && book
+            .lifecycles()
+            .find(&image.lifecycle, image.version)
+            .is_some()
+}
+
+// The client is there, or may be added.
+fn client_fits(book: &Book, image: &WholeImage) -> bool
+    ensures { result ≡ (is_known image.now.id.client book.now || (takes_all image.now.policy && nat_lt (length book.now.clients) client_limit)) }
+{
+    book.client(&image.id.client).is_some()
+        || (image.policy.bytes() == b"adhoc".as_slice() && book.clients().len() < CLIENT_LIMIT)
+}
+
+fn is_base_below(base: Base, time: u64) -> bool
+    ensures { result ≡ is_base_below base time }
+{
+    match base {
+        Base::None => true,
+        Base::Time(before) => before < time,
+    }
+}
+
+fn is_in_time(image: &WholeImage) -> bool
+    ensures { result ≡ (nat_le 1 image.now.id.time && nat_le image.now.id.time last_moment && is_base_below image.now.base image.now.id.time && nat_le image.now.completed last_moment) }
+{
+    1 <= image.id.time
+        && image.id.time <= LAST_MOMENT
+        && is_base_below(image.base, image.id.time)
+        && image.completed <= LAST_MOMENT
+}
+
+fn image_fits(known: &Known, image: &WholeImage) -> bool
+    ensures fits { (records : List Found) (images : List Image) (stored : List Stored) → Remembers records known.now images → result ≡ image_fits (built known.now.site images stored) image.now }
+    ensures new { result ≡ true → record_named image.now.id known.now.catalogue ≡ None }
+{
+    has_room(&known.catalogue, &image.id)
+        && is_allowed(&known.site.book, image)
+        && client_fits(&known.site.book, image)
+        && is_in_time(image)
+}
+
+// Takes in an image whose bytes stand there, if it fits.
+fn take_image(
+    alloc: Global,
+    known: &mut Known,
+    image: &WholeImage,
+    extent: Extent,
+) -> Result<bool, NoMemory>
+    ensures { (records : List Found) (images : List Image) (stored : List Stored) (f : Found)
+        → Contains records f
+        → f.is.entry ≡ entry.WholeImage image.now
+        → image.now.length ≡ length f.is.bytes
+        → extent.from ≡ f.from
+        → extent.length ≡ length f.is.bytes
+        → Remembers records known.old images
+        → IfOk result (IsReached records (apply (built known.old.site images stored) f.is) known.new) }
+{
+    if !image_fits(known, image) {
+        return Ok(false);
+    }
+    let record = record_of(alloc, &known.site.book, image)?;
+    known.admit(alloc, record, extent)?;
+    Ok(true)
+}
+
+// Takes in a record's entry. False where it doesn't fit; then nothing is said of what is known.
+fn take(alloc: Global, known: &mut Known, placed: &Placed) -> Result<bool, NoMemory>
+    ensures { (records : List Found) (images : List Image) (stored : List Stored) (f : Found)
+        → AreSized records
+        → Contains records f
+        → placed_of f ≡ placed.now
+        → Remembers records known.old images
+        → IfOk result (IsReached records (apply (built known.old.site images stored) f.is) known.new) }
+{
+    match &placed.entry {
+        Entry::Settings { lines } => settle_lines(alloc, known, lines.as_slice()),
+        Entry::WholeImage(image) => {
+            let extent = Extent {
+                from: placed.from,
+                length: placed.size,
+            };
+            take_image(alloc, known, image, extent)
+        }
+    }
+}
+
+// What is known of a new vault.
+fn of_new_vault(alloc: Global) -> Result<Known, NoMemory>
+    ensures site { IfOk result (λ k. k.site ≡ initial_site) }
+    ensures remembered { (records : List Found) → IfOk result (λ k. Remembers records k []) }
+{
+    let Some(zone) = Zone::rule(alloc, "UTC0")? else {
+        return Err(AllocError); // It is a rule.
+    };
+    let site = Site {
+        book: Book::new(alloc)?,
+        zone,
+    };
+    Ok(Known {
+        site,
+        catalogue: Catalogue::new(alloc),
+        extents: Extents::new(alloc),
+    })
+}
+
+/// What entries make.
+#[derive(Drop)]
+pub struct Replayed {
+    pub known: Known,
+    /// The offset of the first record that doesn't fit.
+    pub bad: Option<u64>,
+}
+
+/// Replays entries from the state of a new vault on.
+pub fn replay(alloc: Global, entries: &[Placed]) -> Result<Replayed, NoMemory>
+    ensures { IfOk result (λ r. (records : List Found) → AreSized records → placed records ≡ entries.now → IsReplayed records r.known r.bad) }
+{
+    let mut known = of_new_vault(alloc)?;
+    for placed in entries {
+        if !take(alloc, &mut known, placed)? {
+            return Ok(Replayed {
+                known,
+                bad: Some(placed.at),
+            });
+        }
+    }
+    Ok(Replayed { known, bad: None })
+}
