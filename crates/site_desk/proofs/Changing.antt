@@ -24,13 +24,15 @@ use Rattle.desk_model.specs.State.{State, Image, Stored, entries}
 use Rattle.desk_model.specs.Refusals.{first_refusal, unless_refused}
 use Rattle.desk_model.specs.Settings.{is_setting, refusal_answer, use_refusals, setting_refusals, site_after, stored_after, set_by, setting_step}
 use Rattle.desk_model.specs.Step.{step}
+use Rattle.desk_rules.specs.Seen.{blank, seen}
+use Rattle.desk_rules.proofs.SeenLemmas.{entries_seen}
 use Rattle.site_desk.specs.Stands.{apply, settled, settled_by, settled_as}
 use Rattle.site_desk.specs.Extents.{extent_of}
 use Rattle.site_desk.specs.Known.{built, Remembers, IsSet, SameKnown}
 use Rattle.site_desk.specs.Steps.{IsReady, IsRefused, IsStepRefusal}
 use Rattle.site_desk.specs.declared.known.Known.{Known}
 use Rattle.site_desk.proofs.Knowing.{remembers_more}
-use Rattle.site_desk.proofs.Refusing.{refused_as, ArePlain, first_plain, blank, entries-blank, sized-blank}
+use Rattle.site_desk.proofs.Refusing.{refused_as, ArePlain, first_plain, sized_seen}
 
 setting_steps : (s : State) (request : Request) (payload : List ℕ) (moment : ℕ) → is_setting request ≡ true → step s request payload moment ≡ setting_step request s
 setting_steps s Load payload moment is = absurd (cc is)
@@ -73,14 +75,14 @@ abbrev pub Sets : Request → Known → Known → Option Answer → Type 0
 Sets request old new refusal = (images : List Image) (stored : List Stored) → entries images ≡ old.catalogue → ((i : Image) → Contains images i → i.entry.length ≡ length i.bytes) → IsSet (built old.site images stored) request old new refusal
 
 module _ (request : Request) (old new : Known) (refusal : Option Answer) (sets : Sets request old new refusal) where
-  set_blank : IsSet (built old.site (blank old.catalogue) []) request old new refusal
-  set_blank = sets (blank old.catalogue) [] (entries-blank old.catalogue) (sized-blank old.catalogue)
+  set_seen : IsSet (seen old.site old.catalogue) request old new refusal
+  set_seen = sets (map blank old.catalogue) [] (entries_seen old.catalogue) (sized_seen old.catalogue)
 
   pub refusal_plain : (a : Answer) → refusal ≡ Some a → IsStepRefusal a
-  refusal_plain a is = setting_plain request (built old.site (blank old.catalogue) []) a (set_blank.first ∙ is)
+  refusal_plain a is = setting_plain request (seen old.site old.catalogue) a (set_seen.first ∙ is)
 
   pub refusal_same : (a : Answer) → refusal ≡ Some a → SameKnown old new
-  refusal_same a is = record { site = set_blank.refused a is; catalogue = set_blank.catalogue; extents = λ id. ap (extent_of id) set_blank.extents }
+  refusal_same a is = record { site = set_seen.refused a is; catalogue = set_seen.catalogue; extents = λ id. ap (extent_of id) set_seen.extents }
 
   module _ (records : List Found) (images : List Image) (stored : List Stored) (payload : List ℕ) (moment : ℕ) (setting : is_setting request ≡ true) (remembers : Remembers records old images) where
     abbrev s : State

@@ -6,9 +6,10 @@ use Rattle.site_types.specs.declared.answer.Answer.{Answer}
 use Rattle.site_types.specs.declared.answer.Answer.TheVariants.{Done, OutOfMemory, DiskFault}
 use Rattle.site_types.specs.declared.image.ImageRecord.{ImageRecord}
 use Rattle.site_types.specs.declared.request.Request.{Request}
-use Rattle.desk_model.specs.State.{State, Image, entries}
+use Rattle.desk_model.specs.State.{State, Image}
 use Rattle.desk_model.specs.Refusals.{first_refusal, unless_refused}
 use Rattle.desk_model.specs.Step.{step}
+use Rattle.desk_rules.specs.Seen.{blank}
 use Rattle.site_desk.specs.Steps.{IsRefused, IsStepRefusal}
 
 -- a refusal that is the model's
@@ -34,16 +35,8 @@ first_plain (r ∷ rs) a plain is = at r.0 (first_plain rs a plain.1) is
     at true later here = let same : r.1 ≡ a = cc here in subst IsStepRefusal same plain.0
     at false later there = later there
 
--- Images that the catalogue may have the records of, whatever it has.
-abbrev pub blank : List ImageRecord → List Image
-blank [] = []
-blank (r ∷ rs) = record { entry = r; bytes = replicate r.length 0 } ∷ blank rs
-
-pub entries-blank : (records : List ImageRecord) → entries (blank records) ≡ records
-entries-blank [] = refl
-entries-blank (r ∷ rs) = ap (λ (l : List ImageRecord). r ∷ l) (entries-blank rs)
-
-pub sized-blank : (records : List ImageRecord) (i : Image) → Contains (blank records) i → i.entry.length ≡ length i.bytes
-sized-blank [] i (k, lt, is) = absurd (omega (arith, lt))
-sized-blank (r ∷ rs) i (zero, lt, is) = subst (λ (x : Image). x.entry.length ≡ length x.bytes) is (sym (length-replicate r.length 0))
-sized-blank (r ∷ rs) i (suc k, lt, is) = sized-blank rs i (k, omega (arith, lt), is)
+-- the images that a decision sees have their lengths
+pub sized_seen : (records : List ImageRecord) (i : Image) → Contains (map blank records) i → i.entry.length ≡ length i.bytes
+sized_seen [] i (k, lt, is) = absurd (omega (arith, lt))
+sized_seen (r ∷ rs) i (zero, lt, is) = subst (λ (x : Image). x.entry.length ≡ length x.bytes) is (sym (length-replicate r.length 0))
+sized_seen (r ∷ rs) i (suc k, lt, is) = sized_seen rs i (k, omega (arith, lt), is)
