@@ -5,7 +5,6 @@ ghost use Rattle.slp_tree.specs.Lifecycles.{version_named};
 ghost use Rattle.policy_book.specs.Lists.{has};
 ghost use Rattle.policy_book.specs.Book.{client_limit, policy_name};
 ghost use Rattle.image_catalogue.specs.Images.{record_named};
-ghost use Rattle.pool_journal.specs.declared.entry.Entry.{Entry as EntryValue};
 ghost use Rattle.pool_journal.specs.declared.entry.Entry.TheVariants as entry;
 ghost use Rattle.pool_journal.specs.Records.{Found, placed, placed_of};
 ghost use Rattle.desk_model.specs.Site.{initial_site};

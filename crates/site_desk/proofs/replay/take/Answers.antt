@@ -1,4 +1,4 @@
-use Rattle.std.proofs.Common.{◌∙◌, ap, sym, subst, ℕ}
+use Rattle.std.proofs.Common.{◌∙◌, ap, sym, subst}
 use Rattle.std.specs.Prelude.{Option, IfOk}
 use Rattle.pool_journal.specs.declared.records.Placed.{Placed}
 use Rattle.desk_model.specs.State.{State}
