@@ -84,6 +84,7 @@ fn is_in_time(image: &WholeImage) -> bool
 fn image_fits(known: &Known, image: &WholeImage) -> bool
     ensures fits { (records : List Found) (images : List Image) (stored : List Stored) → Remembers records known.now images → result ≡ image_fits (built known.now.site images stored) image.now }
     ensures new { result ≡ true → record_named image.now.id known.now.catalogue ≡ None }
+    ensures version { result ≡ true → is_some (version_named image.now.lifecycle image.now.version known.now.site.book.lifecycles) ≡ true }
 {
     has_room(&known.catalogue, &image.id)
         && is_allowed(&known.site.book, image)
