@@ -1,4 +1,5 @@
 pub mod Admitting
+pub mod Changing
 pub mod ExtentLemmas
 pub mod ImageLemmas
 pub mod Knowing
@@ -6,8 +7,10 @@ pub mod NamedLemmas
 pub mod SiteChanges
 pub mod SizedRecords
 pub mod Opening
+pub mod Refusing
 pub mod ReplayLemmas
 pub mod Restoring
+pub mod SettingLines
 pub mod Standings
 pub mod States
 pub mod Writing

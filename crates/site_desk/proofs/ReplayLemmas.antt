@@ -23,7 +23,7 @@ use Rattle.desk_model.specs.Site.{initial_site}
 use Rattle.desk_model.specs.State.{State, initial, Image, Stored, entries, has_image, with_image}
 use Rattle.desk_model.specs.Refusals.{first_refusal}
 use Rattle.desk_model.specs.Backups.{image_limit, sealed}
-use Rattle.desk_model.specs.Settings.{is_setting, setting_refusals, site_after, stored_after, set_by}
+use Rattle.desk_model.specs.Settings.{is_setting, setting_refusals, stored_after, set_by}
 use Rattle.site_desk.specs.Stands.{image_fits, whole_entry, whole_image, whole_unit, settled_as, settled_by, settled, apply_entry, apply, applied_from, applied}
 use Rattle.site_desk.specs.Extents.{Adds}
 use Rattle.site_desk.specs.Known.{built, Remembers, IsSet, Makes}

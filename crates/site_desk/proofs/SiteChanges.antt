@@ -63,9 +63,9 @@ refused : (o : Option Answer) (s : State) (done : Answer × State) (d : Decision
 refused None s done d answer_is change_is is = absurd (cc (sym (ap is_settings change_is) ∙ is))
 refused (Some a) s done d answer_is change_is is = ap Some (sym answer_is)
 
--- the state of which this is known
-pub state_of : (records : List Found) (known : Known) (images : List Image) (stored : List Stored) → Remembers records known images → IsStateOf known.site known.catalogue (built known.site images stored)
-state_of records known images stored remembers = record { site_is = refl; images_are = remembers.listed; sized = remembers.sized; idle = refl }
+-- a state with these images
+pub state_of : (known : Known) (images : List Image) (stored : List Stored) → entries images ≡ known.catalogue → ((i : Image) → Contains images i → i.entry.length ≡ length i.bytes) → IsStateOf known.site known.catalogue (built known.site images stored)
+state_of known images stored listed sized = record { site_is = refl; images_are = listed; sized = sized; idle = refl }
 
 -- What no refusal says.
 
@@ -201,7 +201,7 @@ whole_after (Restore id copy) site images stored passes whole = record { lifecyc
 
 -- What set leaves.
 
-module _ (records : List Found) (old new : Known) (images : List Image) (stored : List Stored) (r : Request) (d : Decision) (setting : is_setting r ≡ true) (remembers : Remembers records old images) (decided : IsDecision (built old.site images stored) r [] 0 d) where
+module _ (old new : Known) (images : List Image) (stored : List Stored) (r : Request) (d : Decision) (setting : is_setting r ≡ true) (decided : IsDecision (built old.site images stored) r [] 0 d) where
   abbrev said : (d.answer ≡ (setting_step r (built old.site images stored)).0) × (d.change ≡ unless (first_refusal (setting_refusals r (built old.site images stored))) Settings)
   said = as_setting (built old.site images stored) r [] 0 d setting decided
 
@@ -220,8 +220,8 @@ module _ (records : List Found) (old new : Known) (images : List Image) (stored 
     extents = ap (λ (k : Known). k.extents) same;
   }
 
-  pub remembered_so : is_settings d.change ≡ true → new.site ≡ site_after r old.site → new.catalogue ≡ old.catalogue → new.extents ≡ old.extents → Remembers records new images
-  remembered_so is site_is catalogue_is extents_are = record {
+  pub remembered_so : (records : List Found) → Remembers records old images → is_settings d.change ≡ true → new.site ≡ site_after r old.site → new.catalogue ≡ old.catalogue → new.extents ≡ old.extents → Remembers records new images
+  remembered_so records remembers is site_is catalogue_is extents_are = record {
     listed = remembers.listed ∙ sym catalogue_is;
     catalogued = subst (λ (es : List (BackupId × Extent)). Catalogued records es images) (sym extents_are) remembers.catalogued;
     sized = remembers.sized;

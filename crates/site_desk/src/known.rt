@@ -1,9 +1,9 @@
 // What a desk knows of the records of its journal.
-ghost use Rattle.std.specs.Prelude.{◌≡◌, List, true, None, IfOk, OnOk, OnErr};
+ghost use Rattle.std.specs.Prelude.{◌≡◌, List, length, Contains, true, None, IfOk, OnOk, OnErr};
 ghost use Rattle.pool_journal.specs.Records.{Found};
 ghost use Rattle.policy_book.specs.Changes.{client_sealed};
 ghost use Rattle.image_catalogue.specs.Images.{record_named, with_record};
-ghost use Rattle.desk_model.specs.State.{Image, Stored};
+ghost use Rattle.desk_model.specs.State.{Image, Stored, entries};
 ghost use Rattle.desk_model.specs.Settings.{is_setting, site_after};
 ghost use Rattle.site_desk.specs.Extents.{Adds};
 ghost use Rattle.site_desk.specs.Known.{built, Remembers, IsSet, SameKnown, is_settings};
@@ -30,7 +30,7 @@ impl Known {
     /// was.
     pub fn set(&mut self, alloc: Global, request: &Request) -> Result<Option<Answer>, NoMemory>
         requires setting { is_setting request.now ≡ true }
-        ensures set { (records : List Found) (images : List Image) (stored : List Stored) → Remembers records self.old images → IfOk result (IsSet (built self.old.site images stored) request.now self.old self.new) }
+        ensures set { (images : List Image) (stored : List Stored) → entries images ≡ self.old.catalogue → ((i : Image) → Contains images i → i.entry.length ≡ length i.bytes) → IfOk result (IsSet (built self.old.site images stored) request.now self.old self.new) }
         ensures remembered { (records : List Found) (images : List Image) → Remembers records self.old images → OnOk result (Remembers records self.new images) }
         ensures unchanged { OnErr result (self.new ≡ self.old) }
     {
@@ -49,6 +49,7 @@ impl Known {
         ensures site { OnOk result (self.new.site ≡ record self.old.site { book = client_sealed image.id.client image.id.time self.old.site.book }) }
         ensures catalogue { OnOk result (self.new.catalogue ≡ with_record image self.old.catalogue) }
         ensures extents { OnOk result (Adds image.id extent self.old.extents self.new.extents) }
+        ensures site_kept { OnErr result (self.new.site ≡ self.old.site) }
         ensures unchanged { (records : List Found) (images : List Image) → Remembers records self.old images → OnErr result (SameKnown self.old self.new) }
     {
         let id = image.id.copy(alloc)?;

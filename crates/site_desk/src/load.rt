@@ -15,7 +15,8 @@ pub fn prepare_load(alloc: Global, known: &mut Known, payload: &[u8]) -> Result<
     ensures ready { (records : List Found) (images : List Image) (stored : List Stored) (end : ℕ) (moment : ℕ) → Remembers records known.old images → IfOk result (λ r. IsReady records end (built known.old.site images stored) Request.Load payload.now moment r.staged r.body known.new) }
     ensures refused { (records : List Found) (images : List Image) (stored : List Stored) (moment : ℕ) → Remembers records known.old images → IfErr result (IsRefused (built known.old.site images stored) Request.Load payload.now moment) }
     ensures plain { IfErr result IsStepRefusal }
-    ensures unchanged { OnErr result (SameKnown known.old known.new) }
+    ensures site { OnErr result (known.new.site ≡ known.old.site) }
+    ensures unchanged { (records : List Found) (images : List Image) → Remembers records known.old images → OnErr result (SameKnown known.old known.new) }
 {
     let _ = alloc;
     let _ = known;

@@ -39,7 +39,8 @@ pub fn prepare(
     ensures ready { (records : List Found) (images : List Image) (stored : List Stored) → Remembers records known.old images → IfOk result (λ r. IsReady records end (built known.old.site images stored) request.now payload.now moment r.staged r.body known.new) }
     ensures refused { (records : List Found) (images : List Image) (stored : List Stored) → Remembers records known.old images → IfErr result (IsRefused (built known.old.site images stored) request.now payload.now moment) }
     ensures plain { IfErr result IsStepRefusal }
-    ensures unchanged { OnErr result (SameKnown known.old known.new) }
+    ensures site { OnErr result (known.new.site ≡ known.old.site) }
+    ensures unchanged { (records : List Found) (images : List Image) → Remembers records known.old images → OnErr result (SameKnown known.old known.new) }
 {
     match request {
         Request::Load => prepare_load(alloc, known, payload),

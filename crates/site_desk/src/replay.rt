@@ -1,18 +1,17 @@
 // Replaying the entries of a journal.
-ghost use Rattle.std.specs.Prelude.{◌≡◌, ◌&&◌, ◌||◌, [], not, true, is_some, is_none, length, nat_le, nat_lt, List, None, IfOk, Contains};
+ghost use Rattle.std.specs.Prelude.{◌≡◌, ◌&&◌, ◌||◌, [], not, true, false, is_some, is_none, length, nat_le, nat_lt, List, None, IfOk, OnErr, Contains};
 ghost use Rattle.site_types.specs.Limits.{last_moment};
 ghost use Rattle.slp_tree.specs.Lifecycles.{version_named};
 ghost use Rattle.policy_book.specs.Lists.{has};
 ghost use Rattle.policy_book.specs.Book.{client_limit, policy_name};
 ghost use Rattle.image_catalogue.specs.Images.{record_named};
-ghost use Rattle.pool_journal.specs.declared.entry.Entry.{Entry as EntryValue};
 ghost use Rattle.pool_journal.specs.declared.entry.Entry.TheVariants as entry;
 ghost use Rattle.pool_journal.specs.Records.{Found, placed, placed_of};
 ghost use Rattle.desk_model.specs.Site.{initial_site};
 ghost use Rattle.desk_model.specs.State.{Image, Stored, entries, has_image};
 ghost use Rattle.desk_model.specs.Backups.{image_limit, is_known, takes_all};
 ghost use Rattle.site_desk.specs.Stands.{apply, is_base_below, image_fits};
-ghost use Rattle.site_desk.specs.Known.{built, Remembers, IsReplayed};
+ghost use Rattle.site_desk.specs.Known.{built, Remembers, IsReplayed, SameKnown};
 ghost use Rattle.site_desk.specs.Replays.{AreSized, IsReached};
 
 use crate::extents::{Extent, Extents};
@@ -94,14 +93,14 @@ fn image_fits(known: &Known, image: &WholeImage) -> bool
         && is_in_time(image)
 }
 
-// Takes in an image whose bytes stand there, if it fits.
-fn take_image(
+/// Takes in an image whose bytes stand there, if it fits. Else, and without memory, all stays as it was.
+pub fn take_image(
     alloc: Global,
     known: &mut Known,
     image: &WholeImage,
     extent: Extent,
 ) -> Result<bool, NoMemory>
-    ensures { (records : List Found) (images : List Image) (stored : List Stored) (f : Found)
+    ensures taken { (records : List Found) (images : List Image) (stored : List Stored) (f : Found)
         → Contains records f
         → f.is.entry ≡ entry.WholeImage image.now
         → image.now.length ≡ length f.is.bytes
@@ -109,6 +108,9 @@ fn take_image(
         → extent.length ≡ length f.is.bytes
         → Remembers records known.old images
         → IfOk result (IsReached records (apply (built known.old.site images stored) f.is) known.new) }
+    ensures unfit { IfOk result (λ fits. fits ≡ false → known.new ≡ known.old) }
+    ensures site { OnErr result (known.new.site ≡ known.old.site) }
+    ensures unchanged { (records : List Found) (images : List Image) → Remembers records known.old images → OnErr result (SameKnown known.old known.new) }
 {
     if !image_fits(known, image) {
         return Ok(false);

@@ -14,5 +14,6 @@ returns-in_default c = record {
   ready = λ records images stored remembers. c.prepare_change.ensures.ready records images stored c.args.end c.args.payload.now c.args.moment remembers;
   refused = λ records images stored remembers. c.prepare_change.ensures.refused records images stored c.args.payload.now c.args.moment remembers;
   plain = c.prepare_change.ensures.plain;
+  site = c.prepare_change.ensures.site;
   unchanged = c.prepare_change.ensures.unchanged;
 }

@@ -1,4 +1,4 @@
-use Rattle.std.proofs.Common.{◌≡◌, ◌∙◌, ◌<◌, ◌≤◌, arith, ap, sym, subst, List, length, get_or}
+use Rattle.std.proofs.Common.{◌∙◌, ◌<◌, ◌≤◌, arith, ap, sym, subst, List, length, get_or}
 use Rattle.pool_journal.specs.declared.records.Placed.{Placed}
 use Rattle.site_desk.proofs.ReplayLemmas.{nothing_yet, unfit_at, fit_at, all_replayed}
 use Rattle.site_desk.proofs.replay.replay.Goals as goal

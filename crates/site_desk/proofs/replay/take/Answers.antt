@@ -1,4 +1,4 @@
-use Rattle.std.proofs.Common.{◌∙◌, ap, sym, subst, ℕ}
+use Rattle.std.proofs.Common.{◌∙◌, ap, sym, subst}
 use Rattle.std.specs.Prelude.{Option, IfOk}
 use Rattle.pool_journal.specs.declared.records.Placed.{Placed}
 use Rattle.desk_model.specs.State.{State}
@@ -16,4 +16,4 @@ returns-in-Settings c records images stored f sized among placed_is remembers =
 pub returns-in-WholeImage : goal.returns-in-WholeImage
 returns-in-WholeImage c records images stored f sized among placed_is remembers =
     let is = entry_of f c.args.placed.now placed_is ∙ c.in-WholeImage.is in
-    c.take_image.ensures records images stored f among is (length_of f c.in-WholeImage.image is (sized f among)) (ap (λ (q : Placed). q.from) (sym placed_is)) (ap (λ (q : Placed). q.size) (sym placed_is)) remembers
+    c.take_image.ensures.taken records images stored f among is (length_of f c.in-WholeImage.image is (sized f among)) (ap (λ (q : Placed). q.from) (sym placed_is)) (ap (λ (q : Placed). q.size) (sym placed_is)) remembers

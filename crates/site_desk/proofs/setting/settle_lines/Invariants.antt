@@ -1,4 +1,4 @@
-use Rattle.std.proofs.Common.{◌≡◌, List, drop}
+use Rattle.std.proofs.Common.{List, drop}
 use Rattle.pool_journal.specs.Records.{Found}
 use Rattle.desk_model.specs.State.{Image, Stored}
 use Rattle.site_desk.specs.Stands.{settled}

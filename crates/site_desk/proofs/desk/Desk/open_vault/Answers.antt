@@ -1,4 +1,4 @@
-use Rattle.std.proofs.Common.{◌∙◌, sym, subst, ℕ, Some, None}
+use Rattle.std.proofs.Common.{◌∙◌, sym, subst, ℕ}
 use Rattle.std.specs.Prelude.{Option}
 use Rattle.pool_journal.specs.Records.{reading}
 use Rattle.pool_journal.specs.Stops.{IsOpened}

@@ -6,7 +6,9 @@ use Rattle.site_desk.proofs.Writing.{kept_same, refused_steps, written_now, faul
 use Rattle.site_desk.proofs.desk.Desk.record.Goals as goal
 
 pub invariant_of-self : goal.invariant_of-self
-invariant_of-self g c stopped told = kept_same (g.V.Vault.disk c.self.inside.vault) c.self.inside.journal c.self.inside.known (c.self.invariant stopped told) c.prepare.new.known c.in-Err.ensures.unchanged
+invariant_of-self g c stopped told =
+    let kept = c.self.invariant stopped told in
+    kept_same (g.V.Vault.disk c.self.inside.vault) c.self.inside.journal c.self.inside.known kept c.prepare.new.known (c.in-Err.ensures.unchanged kept.kept.records kept.images kept.remembers)
 
 pub returns-in-Err-clause-steps : goal.returns-in-Err-clause-steps
 returns-in-Err-clause-steps g c told_now =
@@ -14,7 +16,7 @@ returns-in-Err-clause-steps g c told_now =
     let told = subst (λ (d : DeskValue _). (g.V.Vault.disk d.vault).tells) (sym is) told_now in
     let kept = c.self.invariant (ap (λ (d : DeskValue _). d.stopped) is ∙ c.requires.running) told in
     subst (λ (d : DeskValue _). Steps d.state c.args.request.now c.args.payload.now c.args.moment c.in-Err.refusal (g.V.Vault.disk d.vault) (g.V.Vault.disk c.self.inside.vault) (desk_state (g.V.Vault.disk c.self.inside.vault) c.prepare.new.known.site)) is
-    (refused_steps (g.V.Vault.disk c.self.inside.vault) c.self.inside.journal c.self.inside.known kept c.args.request.now c.args.payload.now c.args.moment c.in-Err.refusal c.prepare.new.known c.in-Err.ensures.unchanged (c.in-Err.ensures.refused kept.kept.records kept.images kept.stored kept.remembers))
+    (refused_steps (g.V.Vault.disk c.self.inside.vault) c.self.inside.journal c.self.inside.known kept c.args.request.now c.args.payload.now c.args.moment c.in-Err.refusal c.prepare.new.known (c.in-Err.ensures.unchanged kept.kept.records kept.images kept.remembers) (c.in-Err.ensures.refused kept.kept.records kept.images kept.stored kept.remembers))
 
 pub invariant_of-self-in-Ok-write_record : goal.invariant_of-self-in-Ok-write_record
 invariant_of-self-in-Ok-write_record g c stopped told' =
