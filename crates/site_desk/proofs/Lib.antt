@@ -14,3 +14,4 @@ pub mod SettingLines
 pub mod Standings
 pub mod States
 pub mod Writing
+pub mod OfRequests

@@ -1,8 +1,9 @@
 -- What contracts see of a desk.
-use Rattle.std.specs.Prelude.{◌≡◌, ℕ, Bool, List, [], Result, Ok, Err, OnOk}
+use Rattle.std.specs.Prelude.{◌≡◌, ℕ, Bool, List, [], None, Result, Ok, Err, OnOk}
 use Rattle.site_types.specs.declared.answer.Answer.{Answer}
 use Rattle.site_types.specs.declared.answer.Answer.TheVariants.{Done, OutOfMemory, BadRequest, DiskFault, ReadFault, SendFault, ClockFault, NotAVault}
 use Rattle.site_types.specs.declared.request.Request.{Request}
+use Rattle.site_types.specs.declared.request.Request.TheVariants.{Load}
 use Rattle.vault_disk.specs.Disk.{Disk}
 use Rattle.pool_journal.specs.declared.entry.WholeImage.{WholeImage}
 use Rattle.pool_journal.specs.declared.fault.JournalFault.{JournalFault}
@@ -12,6 +13,7 @@ use Rattle.pool_journal.specs.Entries.{Record}
 use Rattle.pool_journal.specs.Stops.{AtRest, with_one}
 use Rattle.desk_model.specs.declared.site.Site.{Site}
 use Rattle.desk_model.specs.State.{State, Image, Stored, initial}
+use Rattle.desk_model.specs.Settings.{file_requests}
 use Rattle.desk_model.specs.Step.{step}
 use Rattle.desk_rules.specs.declared.decision.JobBody.{JobBody}
 use Rattle.desk_rules.specs.declared.decision.JobBody.TheVariants.{Backup}
@@ -70,14 +72,19 @@ abbrev pub reached : State → Request → List ℕ → ℕ → Answer → State
 reached s request payload moment OutOfMemory = s
 reached s request payload moment answer = (step s request payload moment).1
 
--- what a step may be answered on any vault; the one bad request is a payload that is no site file
+-- what a request of the desk may be answered on any vault
 abbrev pub IsOfStep : Answer → Type 0
-IsOfStep (BadRequest index) = index ≡ 1
+IsOfStep (BadRequest index) = ⊥
 IsOfStep ReadFault = ⊥
 IsOfStep SendFault = ⊥
 IsOfStep ClockFault = ⊥
 IsOfStep (NotAVault offset) = ⊥
 IsOfStep answer = Unit {0}
+
+-- a step may be answered that too, and a payload that is no site file is a bad request
+abbrev pub IsOfRequest : Request → List ℕ → Answer → Type 0
+IsOfRequest request payload (BadRequest index) = (request ≡ Load) × (index ≡ 1) × (file_requests payload ≡ None)
+IsOfRequest request payload answer = IsOfStep answer
 
 -- nothing was done
 abbrev pub IsRefusal : Answer → Type 0

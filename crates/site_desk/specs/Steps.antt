@@ -12,7 +12,7 @@ use Rattle.desk_model.specs.State.{State, Image, Stored}
 use Rattle.desk_model.specs.Step.{step}
 use Rattle.site_desk.specs.Stands.{apply, Standing, Between}
 use Rattle.site_desk.specs.Known.{built, Remembers}
-use Rattle.site_desk.specs.Desk.{Answered, Moved, reached, IsOfStep, IsRefusal}
+use Rattle.site_desk.specs.Desk.{Answered, Moved, reached, IsOfStep, IsOfRequest, IsRefusal}
 use Rattle.site_desk.specs.declared.known.Known.{Known}
 
 -- a step over a vault that tells: what is answered, the state after it, and what a stop leaves
@@ -45,6 +45,10 @@ pub record IsReady (records : List Found) (end : ℕ) (s : State) (request : Req
 abbrev pub IsRefused : State → Request → List ℕ → ℕ → Answer → Type 0
 IsRefused s request payload moment answer = Answered s request payload moment answer × Moved s request payload moment answer s
 
--- a refusal that a step may give
+-- a refusal that a step may give, but that of a site file
 abbrev pub IsStepRefusal : Answer → Type 0
 IsStepRefusal answer = IsOfStep answer × IsRefusal answer
+
+-- and that too
+abbrev pub IsRefusalOf : Request → List ℕ → Answer → Type 0
+IsRefusalOf request payload answer = IsOfRequest request payload answer × IsRefusal answer

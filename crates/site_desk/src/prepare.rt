@@ -5,7 +5,7 @@ ghost use Rattle.site_types.specs.Lines.{IsFormed};
 ghost use Rattle.pool_journal.specs.Records.{Found};
 ghost use Rattle.desk_model.specs.State.{Image, Stored};
 ghost use Rattle.site_desk.specs.Known.{built, Remembers, SameKnown};
-ghost use Rattle.site_desk.specs.Steps.{is_written, IsReady, IsRefused, IsStepRefusal};
+ghost use Rattle.site_desk.specs.Steps.{is_written, IsReady, IsRefused, IsRefusalOf};
 
 use crate::backup::prepare_backup;
 use crate::change::prepare_change;
@@ -38,7 +38,7 @@ pub fn prepare(
     requires moment { moment ≤ last_moment }
     ensures ready { (records : List Found) (images : List Image) (stored : List Stored) → Remembers records known.old images → IfOk result (λ r. IsReady records end (built known.old.site images stored) request.now payload.now moment r.staged r.body known.new) }
     ensures refused { (records : List Found) (images : List Image) (stored : List Stored) → Remembers records known.old images → IfErr result (IsRefused (built known.old.site images stored) request.now payload.now moment) }
-    ensures plain { IfErr result IsStepRefusal }
+    ensures plain { IfErr result (IsRefusalOf request.now payload.now) }
     ensures site { OnErr result (known.new.site ≡ known.old.site) }
     ensures unchanged { (records : List Found) (images : List Image) → Remembers records known.old images → OnErr result (SameKnown known.old known.new) }
 {

@@ -4,7 +4,7 @@ ghost use Rattle.vault_disk.specs.Steps.{HasCause, IsSameBut, Rose, Sends};
 ghost use Rattle.site_types.specs.Limits.{last_moment, payload_limit};
 ghost use Rattle.site_types.specs.Lines.{IsFormed};
 ghost use Rattle.site_desk.specs.Stands.{Standing, Between};
-ghost use Rattle.site_desk.specs.Desk.{Answered, Moved, reached, IsOfStep, IsRefusal};
+ghost use Rattle.site_desk.specs.Desk.{Answered, Moved, reached, IsOfStep, IsOfRequest, IsRefusal};
 ghost use Rattle.site_desk.specs.Steps.{is_written, Steps};
 
 use crate::desk::Desk;
@@ -25,7 +25,7 @@ impl<V: Vault> Desk<V> {
         requires payload { length payload.now ≤ payload_limit }
         requires moment { moment ≤ last_moment }
         ensures answers { (V.disk self.old.vault).tells → Answered self.old.state request.now payload.now moment result }
-        ensures kinds { IsOfStep result }
+        ensures kinds { IsOfRequest request.now payload.now result }
         ensures moves { (V.disk self.old.vault).tells → Moved self.old.state request.now payload.now moment result self.new.state }
         ensures refused { IsRefusal result → self.new ≡ self.old }
         ensures running { result ≢ Answer.DiskFault → self.new.stopped ≡ false }
@@ -49,7 +49,7 @@ impl<V: Vault> Desk<V> {
         requires payload { length payload.now ≤ payload_limit }
         requires moment { moment ≤ last_moment }
         ensures steps { (V.disk self.old.vault).tells → Steps self.old.state request.now payload.now moment result (V.disk self.old.vault) (V.disk self.new.vault) self.new.state }
-        ensures kinds { IsOfStep result }
+        ensures kinds { IsOfRequest request.now payload.now result }
         ensures refused { IsRefusal result → self.new ≡ self.old }
         ensures running { result ≢ Answer.DiskFault → self.new.stopped ≡ false }
         ensures stopped { result ≡ Answer.DiskFault → self.new.stopped ≡ true }
