@@ -14,11 +14,13 @@ use Rattle.pool_journal.specs.declared.fault.JournalFault.{JournalFault}
 use Rattle.pool_journal.specs.declared.fault.JournalFault.TheVariants as journal
 use Rattle.desk_model.specs.State.{State}
 use Rattle.desk_model.specs.Step.{step}
+use Rattle.site_desk.specs.Desk as desk
 use Rattle.site_desk.specs.Desk.{Answered, IsFaultOf}
 use Rattle.site_desk.specs.Stands.{opened}
 use Rattle.bp_cli.specs.Words.{spoken, IsSpoken}
 use Rattle.bp_cli.specs.Gather.{Gathers, IsGiven, IsUngathered}
 use Rattle.bp_cli.specs.Runs.{IsOfRequest, refusal_of, word_refusal_of}
+use Rattle.bp_cli.proofs.StepLemmas.{no_file}
 use Rattle.bp_cli.specs.Causes.{IsModels, IsCausedHere, Heard, IsCaused}
 use Rattle.bp_cli.specs.declared.gather.Gathered.{Gathered}
 use Rattle.bp_cli.specs.declared.words.Spoken.{Spoken}
@@ -43,17 +45,18 @@ module _ (asked : Spoken) (tells : Type 0) (state : State) (input input' : Input
   }
 
   -- it was carried out, or refused by the desk
-  pub caused_stepped : (a : Answer) (g : Gathered) (payload : List ℕ) → payload ≡ g.payload → Gathers (takes_payload asked.request) asked.moment input input' ticks ticks' g → (tells → Answered state asked.request payload g.moment a) → IsCausedHere asked tells state input input' ticks ticks' a
-  caused_stepped OutOfMemory g payload same gathers answered = tt
-  caused_stepped DiskFault g payload same gathers answered = tt
-  caused_stepped ReadFault g payload same gathers answered = tt
-  caused_stepped ClockFault g payload same gathers answered = tt
-  caused_stepped (TooMany kind count limit) g payload same gathers answered = inr (models (TooMany kind count limit) g payload same gathers answered)
-  caused_stepped a g payload same gathers answered = models a g payload same gathers answered
+  pub caused_stepped : (a : Answer) (g : Gathered) (payload : List ℕ) → desk.IsOfRequest asked.request payload a → payload ≡ g.payload → Gathers (takes_payload asked.request) asked.moment input input' ticks ticks' g → (tells → Answered state asked.request payload g.moment a) → IsCausedHere asked tells state input input' ticks ticks' a
+  caused_stepped OutOfMemory g payload kinds same gathers answered = tt
+  caused_stepped DiskFault g payload kinds same gathers answered = tt
+  caused_stepped ReadFault g payload kinds same gathers answered = tt
+  caused_stepped ClockFault g payload kinds same gathers answered = tt
+  caused_stepped (BadRequest index) g payload kinds same gathers answered = no_file asked input input' ticks ticks' g payload same gathers index kinds
+  caused_stepped (TooMany kind count limit) g payload kinds same gathers answered = inr (models (TooMany kind count limit) g payload same gathers answered)
+  caused_stepped a g payload kinds same gathers answered = models a g payload same gathers answered
 
 -- the words ask for nothing
 pub caused_words : (words : List (List ℕ)) (tells : Type 0) (seen : Image) (input input' : Input) (ticks ticks' : Ticks) (fault : WordFault) → IsSpoken (Err fault) (spoken words) → IsCaused words tells seen input input' ticks ticks' (word_refusal_of fault)
-caused_words words tells seen input input' ticks ticks' (word.Bad index) is = is
+caused_words words tells seen input input' ticks ticks' (word.Bad index) is = inl is
 caused_words words tells seen input input' ticks ticks' word.NoMemory is = tt
 
 -- the vault wasn't opened
@@ -70,9 +73,9 @@ module _ (words : List (List ℕ)) (tells tells' : Type 0) (tell_still : tells �
   told : (a : Answer) → IsModels asked tells' state input input' ticks ticks' a → IsModels asked tells state input input' ticks ticks' a
   told a m = record { payload = m.payload; given = m.given; short = m.short; moment = m.moment; when = m.when; is = λ t. m.is (tell_still t) }
 
-  pub caused_opened : (a : Answer) → IsOfRequest a → IsCausedHere asked tells' state input input' ticks ticks' a → IsCaused words tells seen input input' ticks ticks' a
+  pub caused_opened : (a : Answer) → IsOfRequest asked input input' a → IsCausedHere asked tells' state input input' ticks ticks' a → IsCaused words tells seen input input' ticks ticks' a
   caused_opened OutOfMemory of_request cause = tt
-  caused_opened (BadRequest index) of_request cause = absurd of_request
+  caused_opened (BadRequest index) of_request cause = inr (record { heard = here; cause = cause })
   caused_opened DiskFault of_request cause = record { asked = asked; words_ask = words_ask }
   caused_opened SendFault of_request cause = absurd of_request
   caused_opened (NotAVault offset) of_request cause = absurd of_request

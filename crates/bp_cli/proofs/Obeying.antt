@@ -3,6 +3,7 @@ use Rattle.std.proofs.Common.{◌≡◌, ◌≢◌, ◌⊎◌, inl, inr, ⊎_eli
 use Rattle.std.specs.Prelude.{Some}
 use Rattle.site_types.specs.Requests.{takes_payload}
 use Rattle.site_types.specs.declared.request.Request.{Request}
+use Rattle.site_types.specs.declared.request.Request.TheVariants.{Load}
 use Rattle.site_types.specs.declared.answer.Answer.{Answer}
 use Rattle.site_types.specs.declared.answer.Answer.TheVariants.{OutOfMemory, BadRequest, DiskFault, SendFault, NotAVault}
 use Rattle.vault_disk.specs.Disk.{Disk, Image}
@@ -64,14 +65,15 @@ obeys_refused s asked d input input' ticks ticks' a ungathered standing = record
   during = started d (λ c b. ((stands c ≡ Some (durable s)) ⊎ Ends s (refused a) c) × (b ≡ d.sent));
 }
 
-pub ungathered_of_request : (takes : Bool) (a : Answer) (input : Input) → IsUngathered takes a input → IsOfRequest a
-ungathered_of_request takes (BadRequest index) input ungathered = ungathered
-ungathered_of_request takes (NotAVault offset) input ungathered = ungathered
-ungathered_of_request takes SendFault input ungathered = ungathered
-ungathered_of_request takes _ input ungathered = tt
+pub ungathered_of_request : (asked : Spoken) (takes : Bool) (a : Answer) (input input' : Input) → IsUngathered takes a input → IsOfRequest asked input input' a
+ungathered_of_request asked takes (BadRequest index) input input' ungathered = absurd ungathered
+ungathered_of_request asked takes (NotAVault offset) input input' ungathered = ungathered
+ungathered_of_request asked takes SendFault input input' ungathered = ungathered
+ungathered_of_request asked takes _ input input' ungathered = tt
 
-pub none_unsent : (a : Answer) → IsOfRequest a → a ≢ SendFault
-none_unsent a of_request is = subst IsOfRequest is of_request
+pub none_unsent : (asked : Spoken) (input input' : Input) (a : Answer) → IsOfRequest asked input input' a → a ≢ SendFault
+none_unsent asked input input' a of_request is = subst (IsOfRequest asked input input') is of_request
 
-pub none_bad : (a : Answer) → IsOfRequest a → (index : ℕ) → a ≢ BadRequest index
-none_bad a of_request index is = subst IsOfRequest is of_request
+-- no other request than that of a site file is answered so
+pub none_bad : (asked : Spoken) (input input' : Input) (a : Answer) → IsOfRequest asked input input' a → asked.request ≢ Load → (index : ℕ) → a ≢ BadRequest index
+none_bad asked input input' a of_request other index is = other (subst (IsOfRequest asked input input') is of_request).load

@@ -13,6 +13,7 @@ use Rattle.session_text.specs.Turns.{Turn, broken, turns}
 use Rattle.desk_model.specs.State.{State}
 use Rattle.desk_model.specs.Step.{step}
 use Rattle.site_desk.specs.Stands.{opened}
+use Rattle.bp_cli.specs.Runs.{IsNoFile}
 use Rattle.bp_cli.specs.Words.{spoken}
 use Rattle.bp_cli.specs.Gather.{IsGiven, IsMoment, IsTooLong}
 use Rattle.bp_cli.specs.Sessions.{framed, EndsBroken}
@@ -34,6 +35,7 @@ IsCausedHere asked tells state input input' ticks ticks' OutOfMemory = Unit {0}
 IsCausedHere asked tells state input input' ticks ticks' DiskFault = Unit {0}
 IsCausedHere asked tells state input input' ticks ticks' ReadFault = Unit {0}
 IsCausedHere asked tells state input input' ticks ticks' ClockFault = Unit {0}
+IsCausedHere asked tells state input input' ticks ticks' (BadRequest index) = IsNoFile asked input input' index
 IsCausedHere asked tells state input input' ticks ticks' (TooMany kind count limit) = IsTooLong (takes_payload asked.request) kind count limit input ⊎ IsModels asked tells state input input' ticks ticks' (TooMany kind count limit)
 IsCausedHere asked tells state input input' ticks ticks' a = IsModels asked tells state input input' ticks ticks' a
 
@@ -48,14 +50,14 @@ pub record Heard (words : List (List ℕ)) (tells : Type 0) (seen : Image) : Typ
   pub state : State
   pub opens : tells → opened seen ≡ Ok state
 
--- why words are answered so on a vault: the index of the first bad word; the offset at which a vault is none; what the desk answers that was opened
+-- why words are answered so on a vault: the index of the first bad word; the offset at which a vault is none; what the desk answers that was opened, to a payload that is no site file too
 pub record IsCausedBy (words : List (List ℕ)) (tells : Type 0) (seen : Image) (input input' : Input) (ticks ticks' : Ticks) (a : Answer) : Type 0 where
   pub heard : Heard words tells seen
   pub cause : IsCausedHere heard.asks.asked tells heard.state input input' ticks ticks' a
 
 abbrev pub IsCaused : List (List ℕ) → Type 0 → Image → Input → Input → Ticks → Ticks → Answer → Type 0
 IsCaused words tells seen input input' ticks ticks' OutOfMemory = Unit {0}
-IsCaused words tells seen input input' ticks ticks' (BadRequest index) = spoken words ≡ Err index
+IsCaused words tells seen input input' ticks ticks' (BadRequest index) = (spoken words ≡ Err index) ⊎ IsCausedBy words tells seen input input' ticks ticks' (BadRequest index)
 IsCaused words tells seen input input' ticks ticks' DiskFault = Asks words
 IsCaused words tells seen input input' ticks ticks' SendFault = ⊥
 IsCaused words tells seen input input' ticks ticks' (NotAVault offset) = Asks words × (tells → opened seen ≡ Err offset)

@@ -1,9 +1,10 @@
 -- A run of the program: what is asked, what is answered, and what a stop leaves.
-use Rattle.std.specs.Prelude.{◌≡◌, ◌≢◌, ◌⊎◌, ℕ, ◌≤◌, List, ◌++◌, length, Some, Result, Ok, Err, MatchResult}
+use Rattle.std.specs.Prelude.{◌≡◌, ◌≢◌, ◌⊎◌, ℕ, ◌≤◌, List, ◌++◌, length, Some, None, Result, Ok, Err, MatchResult}
 use Rattle.site_types.specs.Answers.{number_of, text_of, NeedsMemory}
 use Rattle.site_types.specs.Requests.{takes_payload}
 use Rattle.site_types.specs.declared.answer.Answer.{Answer}
 use Rattle.site_types.specs.declared.answer.Answer.TheVariants.{OutOfMemory, BadRequest, TooMany, DiskFault, ReadFault, SendFault, ClockFault, NotAVault}
+use Rattle.site_types.specs.declared.request.Request.TheVariants.{Load}
 use Rattle.site_types.specs.declared.request.WordFault.{WordFault}
 use Rattle.site_types.specs.declared.request.WordFault.TheVariants as words
 use Rattle.vault_disk.specs.Disk.{Disk, Image, During}
@@ -14,6 +15,7 @@ use Rattle.pool_journal.specs.declared.fault.JournalFault.{JournalFault}
 use Rattle.pool_journal.specs.declared.fault.JournalFault.TheVariants as journal
 use Rattle.site_types.specs.Limits.{payload_limit}
 use Rattle.desk_model.specs.State.{State, durable}
+use Rattle.desk_model.specs.Settings.{file_requests}
 use Rattle.desk_model.specs.Replay.{Mark, plain, memory, fault, Entry, stepped, answer_of}
 use Rattle.site_desk.specs.Stands.{opened, stands, StandsFor}
 use Rattle.bp_cli.specs.Words.{spoken}
@@ -69,12 +71,20 @@ refusal_of journal.NoMemory = OutOfMemory
 refusal_of journal.DiskFault = DiskFault
 refusal_of (journal.NotAVault offset) = NotAVault offset
 
+-- a payload that is to be loaded is no site file
+pub record IsNoFile (asked : Spoken) (input input' : Input) (index : ℕ) : Type 0 where
+  pub load : asked.request ≡ Load
+  pub first : index ≡ 1
+  pub payload : List ℕ
+  pub given : IsGiven (takes_payload asked.request) payload input input'
+  pub none : file_requests payload ≡ None
+
 -- what a request on an open vault may be answered
-abbrev pub IsOfRequest : Answer → Type 0
-IsOfRequest (BadRequest index) = ⊥
-IsOfRequest (NotAVault offset) = ⊥
-IsOfRequest SendFault = ⊥
-IsOfRequest _ = Unit {0}
+abbrev pub IsOfRequest : Spoken → Input → Input → Answer → Type 0
+IsOfRequest asked input input' (BadRequest index) = IsNoFile asked input input' index
+IsOfRequest asked input input' (NotAVault offset) = ⊥
+IsOfRequest asked input input' SendFault = ⊥
+IsOfRequest asked input input' _ = Unit {0}
 
 -- the image stands for the state that a mark leaves; after a fault it may be the one before
 abbrev pub EndsBy : State → Entry → Mark → Image → Type 0

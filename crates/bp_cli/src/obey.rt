@@ -1,5 +1,6 @@
 // A request is answered on a vault.
 ghost use Rattle.std.specs.Prelude.{◌≡◌, ◌≢◌, ◌⊎◌, ℕ, false, MatchResult};
+ghost use Rattle.site_types.specs.Lines.{IsFormed};
 ghost use Rattle.vault_disk.specs.Disk.{IsSame};
 ghost use Rattle.vault_disk.specs.Steps.{Rose};
 ghost use Rattle.desk_model.specs.State.{State, durable};
@@ -13,7 +14,7 @@ use crate::gather::{Gathered, gather};
 use crate::words::{Spoken, read_spoken};
 use pool_journal::JournalFault;
 use site_desk::Desk;
-use site_types::{Answer, Text, WordFault};
+use site_types::{Answer, Request, Text, WordFault};
 use std::alloc::Global;
 use vault_disk::{Clock, Source, Vault};
 
@@ -26,9 +27,10 @@ fn obey<V: Vault, S: Source, C: Clock>(
 ) -> Answer
     requires running { desk.old.stopped ≡ false }
     requires limited { IsLimited spoken.now.moment }
+    requires formed { IsFormed spoken.now.request }
     ensures obeys { (V.disk desk.old.vault).tells → Standing (V.disk desk.old.vault) desk.old.state → Obeys desk.old.state spoken.now (V.disk desk.old.vault) (V.disk desk.new.vault) (S.input source.old) (S.input source.new) (C.ticks clock.old) (C.ticks clock.new) result }
     ensures caused { IsCausedHere spoken.now (V.disk desk.old.vault).tells desk.old.state (S.input source.old) (S.input source.new) (C.ticks clock.old) (C.ticks clock.new) result }
-    ensures of_request { IsOfRequest result }
+    ensures of_request { IsOfRequest spoken.now (S.input source.old) (S.input source.new) result }
     ensures same { IsSame (V.disk desk.old.vault) (V.disk desk.new.vault) }
     ensures disk_fault { result ≡ Answer.DiskFault → Rose (V.disk desk.old.vault).faults (V.disk desk.new.vault).faults }
     ensures read_fault { result ≡ Answer.ReadFault → Rose (S.input source.old).faults (S.input source.new).faults }
@@ -80,7 +82,7 @@ pub fn answered<V: Vault, S: Source, C: Clock>(
     ensures answers { (s : State) → (V.disk vault).tells → Standing (V.disk vault) s → Answers (durable s) words.now (V.disk vault) (V.disk result.0) (S.input source.old) (S.input source.new) (C.ticks clock.old) (C.ticks clock.new) result.1 }
     ensures caused { IsCaused words.now (V.disk vault).tells (V.disk vault).seen (S.input source.old) (S.input source.new) (C.ticks clock.old) (C.ticks clock.new) result.1 }
     ensures sendable { result.1 ≢ Answer.SendFault }
-    ensures bad_words { MatchResult (spoken words.now) (λ _. (index : ℕ) → result.1 ≢ Answer.BadRequest index) (λ index. (result.1 ≡ Answer.BadRequest index) ⊎ (result.1 ≡ Answer.OutOfMemory)) }
+    ensures bad_words { MatchResult (spoken words.now) (λ said. said.request ≢ Request.Load → (index : ℕ) → result.1 ≢ Answer.BadRequest index) (λ index. (result.1 ≡ Answer.BadRequest index) ⊎ (result.1 ≡ Answer.OutOfMemory)) }
     ensures same { IsSame (V.disk vault) (V.disk result.0) }
     ensures disk_fault { result.1 ≡ Answer.DiskFault → Rose (V.disk vault).faults (V.disk result.0).faults }
     ensures read_fault { result.1 ≡ Answer.ReadFault → Rose (S.input source.old).faults (S.input source.new).faults }

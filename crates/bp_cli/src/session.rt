@@ -17,7 +17,7 @@ use crate::turn::SEND_FAULT;
 use pool_journal::JournalFault;
 use session_text::SessionText;
 use site_desk::Desk;
-use site_types::{Answer, NoMemory, Text};
+use site_types::{Answer, NoMemory, Request, Text};
 use std::alloc::Global;
 use vault_disk::{Clock, Machine, Source};
 
@@ -60,7 +60,7 @@ fn run_single<M: Machine, S: Source, C: Clock>(
 ) -> u8
     ensures ran { (s : State) → (M.disk machine.old).tells → Standing (M.disk machine.old) s → Ran (durable s) words.now (M.disk machine.old) (M.disk machine.new) (S.input source.old) (S.input source.new) (C.ticks clock.old) (C.ticks clock.new) result }
     ensures caused { Caused words.now (M.disk machine.old).tells (M.disk machine.old).seen (S.input source.old) (S.input source.new) (C.ticks clock.old) (C.ticks clock.new) result }
-    ensures bad_words { MatchResult (spoken words.now) (λ _. result ≢ 2) (λ _. (result ≡ 2) ⊎ ((result ≡ 1) ⊎ (result ≡ 20))) }
+    ensures bad_words { MatchResult (spoken words.now) (λ said. said.request ≢ Request.Load → result ≢ 2) (λ _. (result ≡ 2) ⊎ ((result ≡ 1) ⊎ (result ≡ 20))) }
     ensures disk_fault { result ≡ 18 → Rose (M.disk machine.old).faults (M.disk machine.new).faults }
     ensures read_fault { result ≡ 19 → Rose (S.input source.old).faults (S.input source.new).faults }
     ensures send_fault { result ≡ 20 → Rose (M.disk machine.old).send_faults (M.disk machine.new).send_faults }
@@ -177,7 +177,7 @@ pub fn run<M: Machine, S: Source, C: Clock>(
     ensures bad_session { names_session words.now ≡ true → is_session words.now ≡ false → (M.disk machine.old).tells → Replies (Answer.BadRequest 1) (M.disk machine.old) (M.disk machine.new) result }
     ensures caused { names_session words.now ≡ false → Caused words.now (M.disk machine.old).tells (M.disk machine.old).seen (S.input source.old) (S.input source.new) (C.ticks clock.old) (C.ticks clock.new) result }
     ensures session_caused { is_session words.now ≡ true → SessionCaused (M.disk machine.old) (M.disk machine.new) (S.input source.old) (S.input source.new) result }
-    ensures bad_words { names_session words.now ≡ false → MatchResult (spoken words.now) (λ _. result ≢ 2) (λ _. (result ≡ 2) ⊎ ((result ≡ 1) ⊎ (result ≡ 20))) }
+    ensures bad_words { names_session words.now ≡ false → MatchResult (spoken words.now) (λ said. said.request ≢ Request.Load → result ≢ 2) (λ _. (result ≡ 2) ⊎ ((result ≡ 1) ⊎ (result ≡ 20))) }
     ensures disk_fault { result ≡ 18 → Rose (M.disk machine.old).faults (M.disk machine.new).faults }
     ensures read_fault { result ≡ 19 → Rose (S.input source.old).faults (S.input source.new).faults }
     ensures send_fault { result ≡ 20 → Rose (M.disk machine.old).send_faults (M.disk machine.new).send_faults }

@@ -1,6 +1,7 @@
 // A request of a session.
 ghost use Rattle.std.specs.Prelude.{◌≡◌, ◌⊎◌, ◌≤◌, ◌≢◌, ℕ, false, length, IfOk, vec_capacity};
 ghost use Rattle.site_types.specs.Limits.{payload_limit};
+ghost use Rattle.site_types.specs.Lines.{IsFormed};
 ghost use Rattle.site_types.specs.Answers.{number_of};
 ghost use Rattle.vault_disk.specs.Disk.{IsLater, IsSame};
 ghost use Rattle.vault_disk.specs.Steps.{IsSameBut, Rose};
@@ -29,6 +30,7 @@ fn is_none_given(payload: &[u8]) -> bool
 fn read_turn(alloc: Global, asked: &Asked) -> Result<Spoken, WordFault>
     ensures spoken { IsSpoken result (turn_spoken asked.now.words asked.now.payload) }
     ensures limit { IfOk result (λ s. IsLimited s.moment) }
+    ensures formed { IfOk result (λ s. IsFormed s.request) }
 {
     let words = asked.words.as_slice();
     let spoken = read_spoken(alloc, words)?;

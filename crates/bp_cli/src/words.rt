@@ -1,6 +1,7 @@
 // The words of a single request.
 ghost use Rattle.std.specs.Prelude.{◌≡◌, true, Some, None, IfOk};
 ghost use Rattle.site_types.specs.Requests.{IsReading, read_words};
+ghost use Rattle.site_types.specs.Lines.{IsFormed};
 ghost use Rattle.bp_cli.specs.Gather.{IsLimited};
 ghost use Rattle.bp_cli.specs.Words.{is_moment, moment_of, at_moment, without_moment, spoken, IsSpoken};
 
@@ -30,6 +31,7 @@ fn moment_of(word: &[u8]) -> Option<u64>
 
 fn read_at(alloc: Global, moment: u64, words: &[Text]) -> Result<Spoken, WordFault>
     ensures moment { IfOk result (λ s. s.moment ≡ Some moment) }
+    ensures formed { IfOk result (λ s. IsFormed s.request) }
     ensures spoken { IsSpoken result (at_moment (Some moment) (read_words words.now)) }
 {
     match Request::read(alloc, words) {
@@ -44,6 +46,7 @@ fn read_at(alloc: Global, moment: u64, words: &[Text]) -> Result<Spoken, WordFau
 
 fn read_now(alloc: Global, words: &[Text]) -> Result<Spoken, WordFault>
     ensures moment { IfOk result (λ s. s.moment ≡ None) }
+    ensures formed { IfOk result (λ s. IsFormed s.request) }
     ensures spoken { IsSpoken result (without_moment (read_words words.now)) }
 {
     match Request::read(alloc, words) {
@@ -59,6 +62,7 @@ fn read_now(alloc: Global, words: &[Text]) -> Result<Spoken, WordFault>
 pub fn read_spoken(alloc: Global, words: &[Text]) -> Result<Spoken, WordFault>
     ensures spoken { IsSpoken result (spoken words.now) }
     ensures limit { IfOk result (λ s. IsLimited s.moment) }
+    ensures formed { IfOk result (λ s. IsFormed s.request) }
 {
     match words {
         [first, rest @ ..] if is_moment(first.bytes()) => match moment_of(first.bytes()) {

@@ -1,33 +1,25 @@
 -- What contracts see of a desk.
-use Rattle.std.specs.Prelude.{◌≡◌, ◌≤◌, ℕ, Bool, true, List, [], codes, Result, Ok, Err}
-use Rattle.site_types.specs.declared.id.BackupId.{BackupId}
+use Rattle.std.specs.Prelude.{◌≡◌, ℕ, Bool, List, [], None, Result, Ok, Err, OnOk}
 use Rattle.site_types.specs.declared.answer.Answer.{Answer}
-use Rattle.site_types.specs.declared.answer.Answer.TheVariants.{Done, OutOfMemory, BadRequest, TooMany, DiskFault, ReadFault, SendFault, ClockFault, NotAVault}
+use Rattle.site_types.specs.declared.answer.Answer.TheVariants.{Done, OutOfMemory, BadRequest, DiskFault, ReadFault, SendFault, ClockFault, NotAVault}
 use Rattle.site_types.specs.declared.request.Request.{Request}
-use Rattle.site_types.specs.Limits.{last_moment}
+use Rattle.site_types.specs.declared.request.Request.TheVariants.{Load}
 use Rattle.vault_disk.specs.Disk.{Disk}
+use Rattle.pool_journal.specs.declared.entry.WholeImage.{WholeImage}
 use Rattle.pool_journal.specs.declared.fault.JournalFault.{JournalFault}
 use Rattle.pool_journal.specs.declared.fault.JournalFault.TheVariants as journal
 use Rattle.pool_journal.specs.Records.{Found}
 use Rattle.pool_journal.specs.Entries.{Record}
 use Rattle.pool_journal.specs.Stops.{AtRest, with_one}
-use Rattle.desk_model.specs.Site.{Client, initial_site, client_named}
-use Rattle.desk_model.specs.State.{State, Image, Stored, initial, has_image}
-use Rattle.desk_model.specs.Step.{step, last_of}
-use Rattle.site_types.specs.declared.image.Kind.TheVariants.{Full}
-use Rattle.site_types.specs.declared.image.Base.TheVariants as base
-use Rattle.pool_journal.specs.declared.entry.Entry.{Entry}
-use Rattle.pool_journal.specs.declared.entry.Entry.TheVariants as entry
+use Rattle.desk_model.specs.declared.site.Site.{Site}
+use Rattle.desk_model.specs.State.{State, Image, Stored, initial}
+use Rattle.desk_model.specs.Settings.{file_requests}
+use Rattle.desk_model.specs.Step.{step}
+use Rattle.desk_rules.specs.declared.decision.JobBody.{JobBody}
+use Rattle.desk_rules.specs.declared.decision.JobBody.TheVariants.{Backup}
 use Rattle.site_desk.specs.Stands.{applied, opened, Standing, Between}
-use Rattle.site_desk.specs.declared.record.Recorded.{Recorded}
-use Rattle.site_desk.specs.declared.record.Recorded.TheVariants.{Written}
-use Rattle.site_desk.specs.Catalogue.{Catalogued}
-use Rattle.site_desk.specs.Clients.{ByName}
-use Rattle.site_desk.specs.declared.catalogue.Extent.{Extent}
-
--- the built-in site with these clients, images and pieces, without jobs
-abbrev pub built : List Client → List Image → List Stored → State
-built clients images stored = record { site = record initial_site { clients = clients }; images = images; stored = stored; jobs = []; next_job = 1 }
+use Rattle.site_desk.specs.Known.{built, Remembers}
+use Rattle.site_desk.specs.declared.known.Known.{Known}
 
 abbrev pub images_in : Result State ℕ → List Image
 images_in (Ok s) = s.images
@@ -37,18 +29,14 @@ abbrev pub stored_in : Result State ℕ → List Stored
 stored_in (Ok s) = s.stored
 stored_in (Err at) = []
 
--- the state of a desk: the clients that it knows, and the images and pieces that its vault holds
-abbrev pub desk_state : Disk → List Client → State
-desk_state disk clients = built clients (images_in (opened disk.seen)) (stored_in (opened disk.seen))
+-- the state of a desk: the site that it knows, and the images and pieces that its vault holds
+abbrev pub desk_state : Disk → Site → State
+desk_state disk site = built site (images_in (opened disk.seen)) (stored_in (opened disk.seen))
 
 pub record DeskValue (V : Type 0) : Type 0 where
   pub state : State
   pub stopped : Bool
   pub vault : V
-
--- no image has a time above its client's last id time
-abbrev pub TimesBelow : List Client → List Image → Type 0
-TimesBelow clients images = (id : BackupId) → has_image id images ≡ true → id.time ≤ last_of (client_named id.client clients)
 
 -- the journal is at rest, and its records make this state
 pub record KeptState (disk : Disk) (end : ℕ) (state : State) : Type 0 where
@@ -56,14 +44,12 @@ pub record KeptState (disk : Disk) (end : ℕ) (state : State) : Type 0 where
   pub rest : AtRest disk end records
   pub made : applied initial records ≡ Ok state
 
--- they make the state with these clients, and the images stand where the catalogue says
-pub record Kept (disk : Disk) (end : ℕ) (clients : List Client) (extents : List (BackupId × Extent)) : Type 0 where
+-- they make the state of which this is known
+pub record Kept (disk : Disk) (end : ℕ) (known : Known) : Type 0 where
   pub images : List Image
   pub stored : List Stored
-  pub kept : KeptState disk end (built clients images stored)
-  pub catalogued : Catalogued kept.records extents images
-  pub by_name : ByName clients
-  pub below : TimesBelow clients images
+  pub kept : KeptState disk end (built known.site images stored)
+  pub remembers : Remembers kept.records known images
 
 -- a step's answer is the model's, or want of memory, or a fault of the disk where the model refuses nothing
 abbrev pub IsDone : Answer → Type 0
@@ -86,7 +72,7 @@ abbrev pub reached : State → Request → List ℕ → ℕ → Answer → State
 reached s request payload moment OutOfMemory = s
 reached s request payload moment answer = (step s request payload moment).1
 
--- what a step may be answered on any vault
+-- what a request of the desk may be answered on any vault
 abbrev pub IsOfStep : Answer → Type 0
 IsOfStep (BadRequest index) = ⊥
 IsOfStep ReadFault = ⊥
@@ -95,41 +81,41 @@ IsOfStep ClockFault = ⊥
 IsOfStep (NotAVault offset) = ⊥
 IsOfStep answer = Unit {0}
 
+-- a step may be answered that too, and a payload that is no site file is a bad request
+abbrev pub IsOfRequest : Request → List ℕ → Answer → Type 0
+IsOfRequest request payload (BadRequest index) = (request ≡ Load) × (index ≡ 1) × (file_requests payload ≡ None)
+IsOfRequest request payload answer = IsOfStep answer
+
 -- nothing was done
 abbrev pub IsRefusal : Answer → Type 0
 IsRefusal (Done body) = ⊥
 IsRefusal DiskFault = ⊥
 IsRefusal answer = Unit {0}
 
--- the record of a backup under the built-in policy
-abbrev pub backup_entry : List ℕ → ℕ → ℕ → ℕ → Entry
-backup_entry client time moment length = entry.WholeImage (record {
-  id = record { client = client; time = time };
-  policy = codes "adhoc";
-  schedule = codes "manual";
-  kind = Full;
-  base = base.None;
-  lifecycle = codes "basic";
-  version = 1;
+-- the image that a backup seals at a moment, as its record has it
+abbrev pub whole_of : JobBody → ℕ → WholeImage
+whole_of (Backup id policy schedule kind base lifecycle version length) moment = record {
+  id = id;
+  policy = policy;
+  schedule = schedule;
+  kind = kind;
+  base = base;
+  lifecycle = lifecycle;
+  version = version;
   completed = moment;
   length = length;
-})
+}
 
 -- the journal is at rest with one record more, and makes this state
 pub record KeptMore (fs : List Found) (at : ℕ) (r : Record) (disk : Disk) (end : ℕ) (state : State) : Type 0 where
   pub kept : KeptState disk end state
   pub records_are : kept.records ≡ with_one fs at r
 
--- a record was written that takes one state to another
-pub record Commits (s t : State) (fs : List Found) (at : ℕ) (r : Record) (old new : Disk) (end : ℕ) (result : Recorded) : Type 0 where
+-- a record was to be written that takes one state to another
+pub record Commits {T E : Type 0} (s t : State) (fs : List Found) (at : ℕ) (r : Record) (old new : Disk) (end : ℕ) (result : Result T E) : Type 0 where
   pub between : Between s t old new
-  pub kept : result ≡ Written → KeptMore fs at r new end t
-  pub standing : result ≡ Written → Standing new t
-
--- too late for an image's time, or no memory to say so
-abbrev pub IsTooLate : ℕ → Answer → Type 0
-IsTooLate last OutOfMemory = Unit {0}
-IsTooLate last answer = answer ≡ TooMany (codes "time") last last_moment
+  pub kept : OnOk result (KeptMore fs at r new end t)
+  pub standing : OnOk result (Standing new t)
 
 -- a fault of an opening: no vault exactly where the image stands for nothing, with the offset of that
 abbrev pub IsFaultOf : Result State ℕ → JournalFault → Type 0

@@ -1,6 +1,7 @@
 pub mod Stands
-pub mod Catalogue
+pub mod Extents
+pub mod Known
+pub mod Replays
 pub mod Desk
-pub mod Clients
-pub mod Opening
 pub mod Restores
+pub mod Steps

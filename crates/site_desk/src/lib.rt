@@ -2,11 +2,20 @@
 #![tactic(auto)]
 
 mod backup;
-mod catalogue;
-mod client;
+mod change;
 mod desk;
+mod extents;
+mod image;
+mod known;
+mod lines;
+mod load;
+mod open;
+mod prepare;
 mod record;
-mod replay;
 mod restore;
+mod zone;
+mod replay;
+mod setting;
+mod step;
 
 pub use desk::Desk;

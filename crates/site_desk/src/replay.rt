@@ -1,35 +1,67 @@
 // Replaying the entries of a journal.
-ghost use Rattle.std.specs.Prelude.{◌≡◌, ◌&&◌, not, is_some, nat_le, List, Some, None, MatchOption, IfOk, OnOk};
-ghost use Rattle.pool_journal.specs.Records.{Found, placed};
+ghost use Rattle.std.specs.Prelude.{◌≡◌, ◌&&◌, ◌||◌, [], not, true, false, is_some, is_none, length, nat_le, nat_lt, List, None, IfOk, OnErr, Contains};
 ghost use Rattle.site_types.specs.Limits.{last_moment};
-ghost use Rattle.desk_model.specs.Site.{Client as ClientValue, initial_site, policy_named, raise_last, version_named};
-ghost use Rattle.desk_model.specs.State.{State, Image, Stored, has_image};
-ghost use Rattle.site_desk.specs.Stands.{is_base_below, image_fits, settled, entry_fits};
-ghost use Rattle.site_desk.specs.Desk.{built};
-ghost use Rattle.site_desk.specs.Opening.{id_in, clients_with, AddsIfAny, RemovesIfAny, Remembers, IsReplayed};
+ghost use Rattle.slp_tree.specs.Lifecycles.{version_named};
+ghost use Rattle.policy_book.specs.Lists.{has};
+ghost use Rattle.policy_book.specs.Book.{client_limit, policy_name};
+ghost use Rattle.image_catalogue.specs.Images.{record_named};
+ghost use Rattle.pool_journal.specs.declared.entry.Entry.TheVariants as entry;
+ghost use Rattle.pool_journal.specs.Records.{Found, placed, placed_of};
+ghost use Rattle.desk_model.specs.Site.{initial_site};
+ghost use Rattle.desk_model.specs.State.{Image, Stored, entries, has_image};
+ghost use Rattle.desk_model.specs.Backups.{image_limit, is_known, takes_all};
+ghost use Rattle.site_desk.specs.Stands.{apply, is_base_below, image_fits};
+ghost use Rattle.site_desk.specs.Known.{built, Remembers, IsReplayed, SameKnown};
+ghost use Rattle.site_desk.specs.Replays.{AreSized, IsReached};
 
-use crate::catalogue::{Catalogue, Extent};
-use crate::client::{Client, make_room, place_of, raise_at};
+use crate::extents::{Extent, Extents};
+use crate::image::record_of;
+use crate::known::Known;
+use crate::setting::settle_lines;
+use desk_model::Site;
+use image_catalogue::Catalogue;
+use policy_book::Book;
 use pool_journal::{Entry, Placed, WholeImage};
-use site_types::{BackupId, Base, LAST_MOMENT, NoMemory, Text};
-use std::alloc::Global;
+use schedule_windows::Zone;
+use site_types::{BackupId, Base, LAST_MOMENT, NoMemory};
+use std::alloc::{AllocError, Global};
 
-// The id of the image that an entry seals.
-fn id_in(entry: &Entry) -> Option<&BackupId>
-    ensures { MatchOption result (id_in entry.now ≡ None) (λ id. id_in entry.now ≡ Some id.now) }
+const IMAGE_LIMIT: u64 = 1_048_576;
+
+const CLIENT_LIMIT: usize = 1_024;
+
+fn is_new(catalogue: &Catalogue, id: &BackupId) -> bool
+    ensures { result ≡ is_none (record_named id.now catalogue.now) }
 {
-    match entry {
-        Entry::Settings { .. } => None,
-        Entry::WholeImage(image) => Some(&image.id),
-    }
+    catalogue.find(id).is_none()
 }
 
-fn is_built_in(image: &WholeImage) -> bool
-    ensures { result ≡ (is_some (policy_named image.now.policy initial_site.policies) && is_some (version_named image.now.lifecycle image.now.version initial_site.lifecycles)) }
+// The image isn't there, and there is room for it.
+fn has_room(catalogue: &Catalogue, id: &BackupId) -> bool
+    ensures fits { (images : List Image) → entries images ≡ catalogue.now → result ≡ (nat_lt (length images) image_limit && not (has_image id.now images)) }
+    ensures new { result ≡ true → record_named id.now catalogue.now ≡ None }
 {
-    b"adhoc".as_slice() == image.policy.bytes()
-        && b"basic".as_slice() == image.lifecycle.bytes()
-        && image.version == 1
+    catalogue.count() < IMAGE_LIMIT && is_new(catalogue, id)
+}
+
+// The policy is there, and the version of the lifecycle.
+fn is_allowed(book: &Book, image: &WholeImage) -> bool
+    ensures allowed { result ≡ (has policy_name image.now.policy book.now.policies && is_some (version_named image.now.lifecycle image.now.version book.now.lifecycles)) }
+    ensures version { result ≡ true → is_some (version_named image.now.lifecycle image.now.version book.now.lifecycles) ≡ true }
+{
+    book.policy(&image.policy).is_some()
+        && book
+            .lifecycles()
+            .find(&image.lifecycle, image.version)
+            .is_some()
+}
+
+// The client is there, or may be added.
+fn client_fits(book: &Book, image: &WholeImage) -> bool
+    ensures { result ≡ (is_known image.now.id.client book.now || (takes_all image.now.policy && nat_lt (length book.now.clients) client_limit)) }
+{
+    book.client(&image.id.client).is_some()
+        || (image.policy.bytes() == b"adhoc".as_slice() && book.clients().len() < CLIENT_LIMIT)
 }
 
 fn is_base_below(base: Base, time: u64) -> bool
@@ -50,104 +82,104 @@ fn is_in_time(image: &WholeImage) -> bool
         && image.completed <= LAST_MOMENT
 }
 
-fn is_new(catalogue: &Catalogue, id: &BackupId) -> bool
-    ensures { (records : List Found) (clients : List ClientValue) (images : List Image) → Remembers records clients catalogue.now images → result ≡ not (has_image id.now images) }
+fn image_fits(known: &Known, image: &WholeImage) -> bool
+    ensures fits { (records : List Found) (images : List Image) (stored : List Stored) → Remembers records known.now images → result ≡ image_fits (built known.now.site images stored) image.now }
+    ensures new { result ≡ true → record_named image.now.id known.now.catalogue ≡ None }
+    ensures version { result ≡ true → is_some (version_named image.now.lifecycle image.now.version known.now.site.book.lifecycles) ≡ true }
 {
-    !catalogue.contains(id)
+    has_room(&known.catalogue, &image.id)
+        && is_allowed(&known.site.book, image)
+        && client_fits(&known.site.book, image)
+        && is_in_time(image)
 }
 
-fn image_fits(clients: &[Client], catalogue: &Catalogue, image: &WholeImage) -> bool
-    ensures { (records : List Found) (images : List Image) (stored : List Stored) → Remembers records clients.now catalogue.now images → result ≡ image_fits (built clients.now images stored) image.now }
+/// Takes in an image whose bytes stand there, if it fits. Else, and without memory, all stays as it was.
+pub fn take_image(
+    alloc: Global,
+    known: &mut Known,
+    image: &WholeImage,
+    extent: Extent,
+) -> Result<bool, NoMemory>
+    ensures taken { (records : List Found) (images : List Image) (stored : List Stored) (f : Found)
+        → Contains records f
+        → f.is.entry ≡ entry.WholeImage image.now
+        → image.now.length ≡ length f.is.bytes
+        → extent.from ≡ f.from
+        → extent.length ≡ length f.is.bytes
+        → Remembers records known.old images
+        → IfOk result (IsReached records (apply (built known.old.site images stored) f.is) known.new) }
+    ensures unfit { IfOk result (λ fits. fits ≡ false → known.new ≡ known.old) }
+    ensures site { OnErr result (known.new.site ≡ known.old.site) }
+    ensures unchanged { (records : List Found) (images : List Image) → Remembers records known.old images → OnErr result (SameKnown known.old known.new) }
 {
-    is_new(catalogue, &image.id) & is_built_in(image) & is_in_time(image)
-}
-
-// No request of the site is there yet, so no line spells one.
-#[tactic(auto, using(crate::proofs::ReplayLemmas::no_line))]
-fn settings_fit(lines: &[Text]) -> bool
-    ensures { (s : State) → result ≡ is_some (settled s lines.now) }
-{
-    lines.is_empty()
-}
-
-fn fits(clients: &[Client], catalogue: &Catalogue, entry: &Entry) -> bool
-    ensures { (records : List Found) (images : List Image) (stored : List Stored) → Remembers records clients.now catalogue.now images → result ≡ entry_fits (built clients.now images stored) entry.now }
-{
-    match entry {
-        Entry::Settings { lines } => settings_fit(lines.as_slice()),
-        Entry::WholeImage(image) => image_fits(clients, catalogue, image),
+    if !image_fits(known, image) {
+        return Ok(false);
     }
+    let record = record_of(alloc, &known.site.book, image)?;
+    known.admit(alloc, record, extent)?;
+    Ok(true)
+}
+
+// Takes in a record's entry. False where it doesn't fit; then nothing is said of what is known.
+fn take(alloc: Global, known: &mut Known, placed: &Placed) -> Result<bool, NoMemory>
+    ensures { (records : List Found) (images : List Image) (stored : List Stored) (f : Found)
+        → AreSized records
+        → Contains records f
+        → placed_of f ≡ placed.now
+        → Remembers records known.old images
+        → IfOk result (IsReached records (apply (built known.old.site images stored) f.is) known.new) }
+{
+    match &placed.entry {
+        Entry::Settings { lines } => settle_lines(alloc, known, lines.as_slice()),
+        Entry::WholeImage(image) => {
+            let extent = Extent {
+                from: placed.from,
+                length: placed.size,
+            };
+            take_image(alloc, known, image, extent)
+        }
+    }
+}
+
+// What is known of a new vault.
+fn of_new_vault(alloc: Global) -> Result<Known, NoMemory>
+    ensures site { IfOk result (λ k. k.site ≡ initial_site) }
+    ensures remembered { (records : List Found) → IfOk result (λ k. Remembers records k []) }
+{
+    let Some(zone) = Zone::rule(alloc, "UTC0")? else {
+        return Err(AllocError); // It is a rule.
+    };
+    let site = Site {
+        book: Book::new(alloc)?,
+        zone,
+    };
+    Ok(Known {
+        site,
+        catalogue: Catalogue::new(alloc),
+        extents: Extents::new(alloc),
+    })
 }
 
 /// What entries make.
 #[derive(Drop)]
 pub struct Replayed {
-    pub clients: Vec<Client>,
-    pub catalogue: Catalogue,
+    pub known: Known,
     /// The offset of the first record that doesn't fit.
     pub bad: Option<u64>,
 }
 
-// Raises the last id time of the image's client.
-fn raise_client(alloc: Global, clients: &mut Vec<Client>, id: &BackupId) -> Result<(), NoMemory>
-    ensures { OnOk result (clients.new.items ≡ raise_last id.now.client id.now.time clients.old.items) }
-{
-    let place = place_of(clients, id.client.bytes());
-    let client = Client::new(id.client.copy(alloc)?, id.time);
-    make_room(clients)?;
-    raise_at(clients, place, client);
-    Ok(())
-}
-
-// Remembers an entry that fits.
-fn take_in(
-    alloc: Global,
-    clients: &mut Vec<Client>,
-    catalogue: &mut Catalogue,
-    placed: &Placed,
-) -> Result<(), NoMemory>
-    ensures clients { OnOk result (clients.new.items ≡ clients_with (id_in placed.now.entry) clients.old.items) }
-    ensures catalogue { OnOk result (AddsIfAny (id_in placed.now.entry) (record { from = placed.now.from; length = placed.now.size }) catalogue.old catalogue.new) }
-{
-    let Some(id) = id_in(&placed.entry) else {
-        return Ok(());
-    };
-    raise_client(alloc, clients, id)?;
-    let extent = Extent {
-        from: placed.from,
-        length: placed.size,
-    };
-    catalogue.add(id.copy(alloc)?, extent)
-}
-
-/// Takes the image that an entry seals out of the catalogue.
-pub fn take_out(catalogue: &mut Catalogue, entry: &Entry)
-    ensures { RemovesIfAny (id_in entry.now) catalogue.old catalogue.new }
-{
-    if let Some(id) = id_in(entry) {
-        catalogue.remove(id);
-    }
-}
-
 /// Replays entries from the state of a new vault on.
 pub fn replay(alloc: Global, entries: &[Placed]) -> Result<Replayed, NoMemory>
-    ensures { IfOk result (λ r. (records : List Found) → placed records ≡ entries.now → IsReplayed records r.clients.items r.catalogue r.bad) }
+    ensures { IfOk result (λ r. (records : List Found) → AreSized records → placed records ≡ entries.now → IsReplayed records r.known r.bad) }
 {
-    let mut clients = Vec::new(alloc);
-    let mut catalogue = Catalogue::new(alloc);
+    let mut known = of_new_vault(alloc)?;
     for placed in entries {
-        if !fits(&clients, &catalogue, &placed.entry) {
+        if !take(alloc, &mut known, placed)? {
             return Ok(Replayed {
-                clients,
-                catalogue,
+                known,
                 bad: Some(placed.at),
             });
         }
-        take_in(alloc, &mut clients, &mut catalogue, placed)?;
     }
-    Ok(Replayed {
-        clients,
-        catalogue,
-        bad: None,
-    })
+    Ok(Replayed { known, bad: None })
 }

@@ -4,11 +4,12 @@ ghost use Rattle.site_types.specs.Ids.{copy_text, id_text};
 ghost use Rattle.site_types.specs.Limits.{payload_limit};
 ghost use Rattle.pool_journal.specs.Records.{Found};
 ghost use Rattle.desk_model.specs.State.{Image, image_named};
-ghost use Rattle.desk_model.specs.Step.{first_refusal, restore_refusals};
-ghost use Rattle.site_desk.specs.Catalogue.{Catalogued, extent_of};
+ghost use Rattle.desk_model.specs.Refusals.{first_refusal};
+ghost use Rattle.desk_model.specs.Step.{restore_refusals};
+ghost use Rattle.site_desk.specs.Extents.{Catalogued, extent_of};
 ghost use Rattle.site_desk.specs.Restores.{IsOr, IsRefusedAs, IsRestoreRefusal};
 
-use crate::catalogue::{Catalogue, Extent};
+use crate::extents::{Extent, Extents};
 use site_types::{Answer, BackupId, Text};
 use std::alloc::Global;
 
@@ -54,15 +55,15 @@ fn too_long(alloc: Global, count: u64) -> Answer
 /// Where the bytes stand that a restore of this image's copy gives, or why it is refused.
 pub fn wanted(
     alloc: Global,
-    catalogue: &Catalogue,
+    extents: &Extents,
     id: &BackupId,
     copy: Option<u8>,
 ) -> Result<Extent, Answer>
-    ensures found { (records : List Found) (images : List Image) → Catalogued records catalogue.now images → IfOk result (λ e. (first_refusal (restore_refusals (image_named id.now images) id.now copy) ≡ None) × (extent_of id.now catalogue.now ≡ Some e)) }
-    ensures refused { (records : List Found) (images : List Image) → Catalogued records catalogue.now images → IfErr result (IsRefusedAs (first_refusal (restore_refusals (image_named id.now images) id.now copy))) }
+    ensures found { (records : List Found) (images : List Image) → Catalogued records extents.now images → IfOk result (λ e. (first_refusal (restore_refusals (image_named id.now images) id.now copy) ≡ None) × (extent_of id.now extents.now ≡ Some e)) }
+    ensures refused { (records : List Found) (images : List Image) → Catalogued records extents.now images → IfErr result (IsRefusedAs (first_refusal (restore_refusals (image_named id.now images) id.now copy))) }
     ensures plain { IfErr result IsRestoreRefusal }
 {
-    let Some(extent) = catalogue.find(id) else {
+    let Some(extent) = extents.find(id) else {
         return Err(unknown_image(alloc, id));
     };
     let number = copy.unwrap_or(FIRST_COPY);

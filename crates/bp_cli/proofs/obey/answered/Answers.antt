@@ -1,10 +1,15 @@
-use Rattle.std.proofs.Common.{sym, subst}
+use Rattle.std.proofs.Common.{◌≡◌, ◌≢◌, ◌⊎◌, ℕ, Result, sym, subst}
+use Rattle.std.specs.Prelude.{MatchResult}
+use Rattle.site_types.specs.declared.answer.Answer.TheVariants.{BadRequest, OutOfMemory}
+use Rattle.site_types.specs.declared.request.Request.TheVariants.{Load}
 use Rattle.site_types.specs.declared.answer.Answer.{Answer}
 use Rattle.desk_model.specs.State.{durable}
 use Rattle.bp_cli.specs.Runs.{Answers, word_refusal_of}
 use Rattle.bp_cli.specs.Causes.{IsCaused}
 use Rattle.bp_cli.proofs.Causing.{caused_words, caused_unopened, caused_opened}
-use Rattle.bp_cli.proofs.Opened.{answers_untouched, answers_unopened, asked_words}
+use Rattle.bp_cli.proofs.Obeying.{none_bad}
+use Rattle.bp_cli.proofs.Opened.{answers_untouched, answers_unopened, answers_opened, asked_words}
+use Rattle.bp_cli.specs.declared.words.Spoken.{Spoken}
 use Rattle.bp_cli.proofs.obey.answered.Goals as goal
 
 pub returns-in-Err-clause-answers : goal.returns-in-Err-clause-answers
@@ -33,3 +38,16 @@ pub returns-in-Ok-open_vault-clause-caused : goal.returns-in-Ok-open_vault-claus
 returns-in-Ok-open_vault-clause-caused g c =
     caused_opened c.args.words.now (g.V.Vault.disk c.args.vault).tells (g.V.Vault.disk c.in-Ok-open_vault.desk.vault).tells c.in-Ok-open_vault.ensures.same.tells (g.V.Vault.disk c.args.vault).seen (g.S.Source.input c.args.source.now) (g.S.Source.input c.obey-answer.new.source) (g.C.Clock.ticks c.args.clock.now) (g.C.Clock.ticks c.obey-answer.new.clock)
     c.in-Ok.spoken c.in-Ok-open_vault.desk.state c.in-Ok.ensures.spoken (λ told. (c.in-Ok-open_vault.ensures.state told).0) c.obey-answer.result c.obey-answer.ensures.of_request c.obey-answer.ensures.caused
+
+pub returns-in-Ok-open_vault-clause-bad_words : goal.returns-in-Ok-open_vault-clause-bad_words
+returns-in-Ok-open_vault-clause-bad_words g c =
+    subst (λ (r : Result Spoken ℕ). MatchResult r (λ said. said.request ≢ Load → (index : ℕ) → c.obey-answer.result ≢ BadRequest index) (λ index. (c.obey-answer.result ≡ BadRequest index) ⊎ (c.obey-answer.result ≡ OutOfMemory))) (sym c.in-Ok.ensures.spoken)
+    (none_bad c.in-Ok.spoken (g.S.Source.input c.args.source.now) (g.S.Source.input c.obey-answer.new.source) c.obey-answer.result c.obey-answer.ensures.of_request)
+
+pub returns-in-Ok-open_vault-clause-answers : goal.returns-in-Ok-open_vault-clause-answers
+returns-in-Ok-open_vault-clause-answers g c s told standing =
+    let o = c.in-Ok-open_vault.ensures in
+    subst (λ (v : g.row.V.Denot). Answers (durable s) c.args.words.now (g.V.Vault.disk c.args.vault) (g.V.Vault.disk v) (g.S.Source.input c.args.source.now) (g.S.Source.input c.obey-answer.new.source) (g.C.Clock.ticks c.args.clock.now) (g.C.Clock.ticks c.obey-answer.new.clock) c.obey-answer.result) (sym c.close.ensures)
+    (answers_opened s c.args.words.now (g.V.Vault.disk c.args.vault) (g.V.Vault.disk c.in-Ok-open_vault.desk.vault) standing (g.met.V.Vault.reads_count c.args.vault told) (o.stops told) o.same.sent
+    c.in-Ok.spoken c.in-Ok-open_vault.desk.state (g.V.Vault.disk c.obey-answer.new.desk.vault) (g.S.Source.input c.args.source.now) (g.S.Source.input c.obey-answer.new.source) (g.C.Clock.ticks c.args.clock.now) (g.C.Clock.ticks c.obey-answer.new.clock) c.obey-answer.result
+    c.in-Ok.ensures.spoken (o.state told).0 (c.obey-answer.ensures.obeys (o.same.tells told) (o.state told).1))

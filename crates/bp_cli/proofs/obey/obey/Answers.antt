@@ -15,14 +15,16 @@ pub returns-in-Err-clause-obeys : goal.returns-in-Err-clause-obeys
 returns-in-Err-clause-obeys g c told standing = obeys_refused c.args.desk.now.state c.args.spoken.now (g.V.Vault.disk c.args.desk.now.vault) (g.S.Source.input c.args.source.now) (g.S.Source.input c.gather.new.source) (g.C.Clock.ticks c.args.clock.now) (g.C.Clock.ticks c.gather.new.clock) c.in-Err.answer (subst (λ (b : Bool). IsUngathered b c.in-Err.answer (g.S.Source.input c.args.source.now)) c.takes_payload.ensures c.in-Err.ensures.refused) standing
 
 pub returns-in-Ok-clause-of_request : goal.returns-in-Ok-clause-of_request
-returns-in-Ok-clause-of_request g c = step_of_request c.step.result c.step.ensures.kinds
+returns-in-Ok-clause-of_request g c =
+    step_of_request c.args.spoken.now (g.S.Source.input c.args.source.now) (g.S.Source.input c.gather.new.source) (g.C.Clock.ticks c.args.clock.now) (g.C.Clock.ticks c.gather.new.clock) c.in-Ok.field-0 c.bytes.result.now c.bytes.ensures
+    (subst (λ (b : Bool). Gathers b c.args.spoken.now.moment (g.S.Source.input c.args.source.now) (g.S.Source.input c.gather.new.source) (g.C.Clock.ticks c.args.clock.now) (g.C.Clock.ticks c.gather.new.clock) c.in-Ok.field-0) c.takes_payload.ensures c.in-Ok.ensures.gathered) c.step.result c.step.ensures.kinds
 
 pub returns-in-Err-clause-of_request : goal.returns-in-Err-clause-of_request
-returns-in-Err-clause-of_request g c = ungathered_of_request c.takes_payload.result c.in-Err.answer (g.S.Source.input c.args.source.now) c.in-Err.ensures.refused
+returns-in-Err-clause-of_request g c = ungathered_of_request c.args.spoken.now c.takes_payload.result c.in-Err.answer (g.S.Source.input c.args.source.now) (g.S.Source.input c.gather.new.source) c.in-Err.ensures.refused
 
 pub returns-in-Ok-clause-caused : goal.returns-in-Ok-clause-caused
 returns-in-Ok-clause-caused g c =
-    caused_stepped c.args.spoken.now (g.V.Vault.disk c.args.desk.now.vault).tells c.args.desk.now.state (g.S.Source.input c.args.source.now) (g.S.Source.input c.gather.new.source) (g.C.Clock.ticks c.args.clock.now) (g.C.Clock.ticks c.gather.new.clock) c.step.result c.in-Ok.field-0 c.bytes.result.now c.bytes.ensures (subst (λ (b : Bool). Gathers b c.args.spoken.now.moment (g.S.Source.input c.args.source.now) (g.S.Source.input c.gather.new.source) (g.C.Clock.ticks c.args.clock.now) (g.C.Clock.ticks c.gather.new.clock) c.in-Ok.field-0) c.takes_payload.ensures c.in-Ok.ensures.gathered) c.step.ensures.answers
+    caused_stepped c.args.spoken.now (g.V.Vault.disk c.args.desk.now.vault).tells c.args.desk.now.state (g.S.Source.input c.args.source.now) (g.S.Source.input c.gather.new.source) (g.C.Clock.ticks c.args.clock.now) (g.C.Clock.ticks c.gather.new.clock) c.step.result c.in-Ok.field-0 c.bytes.result.now c.step.ensures.kinds c.bytes.ensures (subst (λ (b : Bool). Gathers b c.args.spoken.now.moment (g.S.Source.input c.args.source.now) (g.S.Source.input c.gather.new.source) (g.C.Clock.ticks c.args.clock.now) (g.C.Clock.ticks c.gather.new.clock) c.in-Ok.field-0) c.takes_payload.ensures c.in-Ok.ensures.gathered) c.step.ensures.answers
 
 pub returns-in-Err-clause-caused : goal.returns-in-Err-clause-caused
 returns-in-Err-clause-caused g c =

@@ -1,0 +1,152 @@
+-- An image more in what is known.
+use Rattle.std.proofs.Common.{◌≡◌, ◌≤◌, ℕ, zero, suc, max, List, [], ◌∷◌, length, Bool, true, false, Some, None, refl, sym, ◌∙◌, ap, subst, arith}
+use Rattle.std.specs.Prelude.{Option, is_some, if◌then◌else◌, ◌||◌, Contains}
+use Rattle.std.specs.Option.{option_map_or}
+use Rattle.std.specs.Str.{bytes_eq}
+use Rattle.std.specs.Cmp.Lexicographic.{slice_cmp}
+use Rattle.std.specs.Ordering.{match_ordering, nat_cmp, is_eq}
+use Rattle.std.specs.declared.cmp.Ordering.{Ordering}
+use Rattle.std.specs.declared.cmp.Ordering.TheVariants.{Less, Equal, Greater}
+use Rattle.std.proofs.lemmas.Map.Text.{is_eq-slice_cmp}
+use Rattle.std.proofs.lemmas.Slice.Eq.{bytes_eq-Decides}
+use Rattle.site_types.specs.declared.id.BackupId.{BackupId}
+use Rattle.site_types.specs.declared.image.ImageRecord.{ImageRecord}
+use Rattle.pool_journal.specs.Records.{Found}
+use Rattle.policy_book.specs.declared.client.Client.{Client}
+use Rattle.policy_book.specs.Lists.{named, put}
+use Rattle.policy_book.specs.Book.{Book, client_name}
+use Rattle.policy_book.specs.Changes.{last_of, client_sealed}
+use Rattle.image_catalogue.specs.Images.{same_id, is_before, record_named, with_record}
+use Rattle.desk_model.specs.declared.site.Site.{Site}
+use Rattle.desk_model.specs.State.{Image, has_image, with_image, entries}
+use Rattle.site_desk.specs.Extents.{Adds, IsKeptAt}
+use Rattle.site_desk.specs.Known.{TimesBelow, IsWhole, Remembers}
+use Rattle.site_desk.specs.declared.extents.Extent.{Extent}
+use Rattle.site_desk.specs.declared.known.Known.{Known}
+use Rattle.site_desk.proofs.ExtentLemmas.{same_is, catalogued-with}
+
+-- The catalogue.
+
+pub entries-with : (new : Image) (images : List Image) → entries (with_image new images) ≡ with_record new.entry (entries images)
+entries-with new [] = refl
+entries-with new (i ∷ images) = at (is_before new.entry.id i.entry.id) (entries-with new images)
+  where
+    at : (b : Bool) → entries (with_image new images) ≡ with_record new.entry (entries images)
+        → entries (if b then new ∷ i ∷ images else i ∷ with_image new images) ≡ (if b then new.entry ∷ i.entry ∷ entries images else i.entry ∷ with_record new.entry (entries images))
+    at true more = refl
+    at false more = ap (λ (l : List ImageRecord). i.entry ∷ l) more
+
+-- an image is there exactly where the catalogue has it
+pub has_entry : (id : BackupId) (images : List Image) → is_some (record_named id (entries images)) ≡ has_image id images
+has_entry id [] = refl
+has_entry id (i ∷ images) = at (same_id i.entry.id id) (has_entry id images)
+  where
+    at : (b : Bool) → is_some (record_named id (entries images)) ≡ has_image id images → is_some (if b then Some i.entry else record_named id (entries images)) ≡ (b || has_image id images)
+    at true more = refl
+    at false more = more
+
+has_image-with : (id : BackupId) (new : Image) (images : List Image) → has_image id (with_image new images) ≡ (same_id new.entry.id id || has_image id images)
+has_image-with id new [] = refl
+has_image-with id new (i ∷ images) = at (is_before new.entry.id i.entry.id) (has_image-with id new images)
+  where
+    swapped : (a b c d : Bool) → d ≡ (a || c) → (b || d) ≡ (a || (b || c))
+    swapped true b c d is = grind (arith, is)
+    swapped false b c d is = ap (λ (x : Bool). b || x) is
+
+    at : (b : Bool) → has_image id (with_image new images) ≡ (same_id new.entry.id id || has_image id images)
+        → has_image id (if b then new ∷ i ∷ images else i ∷ with_image new images) ≡ (same_id new.entry.id id || (same_id i.entry.id id || has_image id images))
+    at true more = refl
+    at false more = swapped (same_id new.entry.id id) (same_id i.entry.id id) (has_image id images) (has_image id (with_image new images)) more
+
+-- what holds of the images and of a new one holds of all
+each-with : (P : Image → Type 0) (new : Image) (images : List Image) → P new → ((i : Image) → Contains images i → P i) → (i : Image) → Contains (with_image new images) i → P i
+each-with P new [] here each i (zero, lt, is) = subst P is here
+each-with P new [] here each i (suc k, lt, is) = absurd (omega arith)
+each-with P new (x ∷ images) here each one among = at (is_before new.entry.id x.entry.id) (each-with P new images here (λ i there. each i (suc there.0, omega (arith, there.1), there.2))) one among
+  where
+    at : (b : Bool) → ((i : Image) → Contains (with_image new images) i → P i) → (i : Image) → Contains (if b then new ∷ x ∷ images else x ∷ with_image new images) i → P i
+    at true more i (zero, lt, is) = subst P is here
+    at true more i (suc k, lt, is) = each i (k, omega arith, is)
+    at false more i (zero, lt, is) = each i (zero, omega arith, is)
+    at false more i (suc k, lt, is) = more i (k, omega arith, is)
+
+-- The clients.
+
+named_put : (new : Client) (other : List ℕ) (clients : List Client) → named client_name other (put client_name new clients) ≡ (if bytes_eq new.name other then Some new else named client_name other clients)
+named_put new other [] = refl
+named_put new other (c ∷ cs) = at (slice_cmp nat_cmp new.name c.name) refl (named_put new other cs)
+  where
+    at : (o : Ordering) → slice_cmp nat_cmp new.name c.name ≡ o → named client_name other (put client_name new cs) ≡ (if bytes_eq new.name other then Some new else named client_name other cs)
+        → named client_name other (match_ordering o (new ∷ c ∷ cs) (new ∷ cs) (c ∷ put client_name new cs)) ≡ (if bytes_eq new.name other then Some new else (if bytes_eq c.name other then Some c else named client_name other cs))
+    at Less is more = refl
+    at Equal is more = replaced (bytes_eq new.name other) refl
+      where
+        same : new.name ≡ c.name
+        same = (bytes_eq-Decides new.name c.name).0 (sym (is_eq-slice_cmp new.name c.name) ∙ ap is_eq is)
+
+        replaced : (b : Bool) → bytes_eq new.name other ≡ b → (if b then Some new else named client_name other cs) ≡ (if b then Some new else (if bytes_eq c.name other then Some c else named client_name other cs))
+        replaced true here = refl
+        replaced false here = λ i. if (sym here ∙ ap (λ (n : List ℕ). bytes_eq n other) same) i then Some c else named client_name other cs
+    at Greater is more = ap (λ (o : Option Client). if bytes_eq c.name other then Some c else o) more ∙ swapped (bytes_eq c.name other) (bytes_eq new.name other) refl refl
+      where
+        swapped : (a b : Bool) → bytes_eq c.name other ≡ a → bytes_eq new.name other ≡ b → (if a then Some c else (if b then Some new else named client_name other cs)) ≡ (if b then Some new else (if a then Some c else named client_name other cs))
+        swapped true true c_is new_is =
+            let same : new.name ≡ c.name = (bytes_eq-Decides new.name other).0 new_is ∙ sym ((bytes_eq-Decides c.name other).0 c_is) in
+            let tied : is_eq (slice_cmp nat_cmp new.name c.name) ≡ true = is_eq-slice_cmp new.name c.name ∙ (bytes_eq-Decides new.name c.name).1 same in
+            absurd (cc (tied, ap is_eq is))
+        swapped true false c_is new_is = refl
+        swapped false b c_is new_is = refl
+
+-- the last id time of a client after a backup of it, or of another, was sealed
+pub last_sealed : (name other : List ℕ) (time : ℕ) (book : Book) → last_of other (client_sealed name time book) ≡ (if bytes_eq name other then max (last_of name book) time else last_of other book)
+last_sealed name other time book =
+    ap (λ (o : Option Client). option_map_or (λ c. c.last) o 0) (named_put (record { name = name; last = max (last_of name book) time }) other book.clients) ∙ at (bytes_eq name other)
+  where
+    at : (b : Bool) → option_map_or (λ (c : Client). c.last) (if b then Some (record { name = name; last = max (last_of name book) time }) else named client_name other book.clients) 0 ≡ (if b then max (last_of name book) time else last_of other book)
+    at true = refl
+    at false = refl
+
+-- no last id time falls
+last_rises : (name other : List ℕ) (time : ℕ) (book : Book) → last_of other book ≤ last_of other (client_sealed name time book)
+last_rises name other time book = subst (λ (k : ℕ). last_of other book ≤ k) (sym (last_sealed name other time book)) (at (bytes_eq name other) refl)
+  where
+    at : (b : Bool) → bytes_eq name other ≡ b → last_of other book ≤ (if b then max (last_of name book) time else last_of other book)
+    at true same =
+        let is : last_of other book ≡ last_of name book = ap (λ (n : List ℕ). last_of n book) (sym ((bytes_eq-Decides name other).0 same)) in
+        omega (arith, is)
+    at false differs = omega arith
+
+last_reaches : (name : List ℕ) (time : ℕ) (book : Book) → time ≤ last_of name (client_sealed name time book)
+last_reaches name time book = subst (λ (k : ℕ). time ≤ k) (sym (last_sealed name name time book ∙ (λ i. if (bytes_eq-Decides name name).1 refl i then max (last_of name book) time else last_of name book))) (omega arith)
+
+-- with an image more, and its client's last id time raised, no image has a time above its client's
+pub below-with : (new : Image) (book : Book) (images : List Image) → TimesBelow book images → TimesBelow (client_sealed new.entry.id.client new.entry.id.time book) (with_image new images)
+below-with new book images below id has = at (same_id new.entry.id id) refl (sym (has_image-with id new images) ∙ has)
+  where
+    after : Book
+    after = client_sealed new.entry.id.client new.entry.id.time book
+
+    at : (b : Bool) → same_id new.entry.id id ≡ b → (b || has_image id images) ≡ true → id.time ≤ last_of id.client after
+    at true same either = subst (λ (x : BackupId). x.time ≤ last_of x.client after) (same_is new.entry.id id same) (last_reaches new.entry.id.client new.entry.id.time book)
+    at false differs old =
+        let earlier = below id old in
+        let rises = last_rises new.entry.id.client id.client new.entry.id.time book in
+        omega (arith, earlier, rises)
+
+-- lifecycles, units and policies stay
+whole_sealed : (name : List ℕ) (time : ℕ) (book : Book) → IsWhole book → IsWhole (client_sealed name time book)
+whole_sealed name time book whole = record { lifecycles = whole.lifecycles; unit = whole.unit; policies = whole.policies }
+
+-- An image that isn't there was taken in: it is known of beside those that were, and so are the records, those that were and its own.
+pub admitted : (records records' : List Found) (known known' : Known) (images : List Image) (new : Image) (extent : Extent) → ((f : Found) → Contains records f → Contains records' f) → Remembers records known images → record_named new.entry.id known.catalogue ≡ None → new.entry.length ≡ length new.bytes
+    → IsKeptAt records' extent new → known'.site ≡ record (known.site) { book = client_sealed new.entry.id.client new.entry.id.time known.site.book } → known'.catalogue ≡ with_record new.entry known.catalogue → Adds new.entry.id extent known.extents known'.extents → Remembers records' known' (with_image new images)
+admitted records records' known known' images new extent there remembers lacking size kept site catalogue adds =
+    let fresh : has_image new.entry.id images ≡ false = sym (has_entry new.entry.id images) ∙ ap (λ (l : List ImageRecord). is_some (record_named new.entry.id l)) remembers.listed ∙ ap is_some lacking in
+    let book : known'.site.book ≡ client_sealed new.entry.id.client new.entry.id.time known.site.book = ap (λ (s : Site). s.book) site in
+    record {
+      listed = entries-with new images ∙ ap (with_record new.entry) remembers.listed ∙ sym catalogue;
+      catalogued = catalogued-with records records' known.extents known'.extents images new extent there fresh remembers.catalogued adds kept;
+      sized = each-with (λ i. i.entry.length ≡ length i.bytes) new images size remembers.sized;
+      below = subst (λ (b : Book). TimesBelow b (with_image new images)) (sym book) (below-with new known.site.book images remembers.below);
+      whole = subst IsWhole (sym book) (whole_sealed new.entry.id.client new.entry.id.time known.site.book remembers.whole);
+    }

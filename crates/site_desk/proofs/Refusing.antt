@@ -1,0 +1,42 @@
+-- Steps that are refused.
+use Rattle.std.proofs.Common.{◌≡◌, ◌<◌, ℕ, zero, suc, Bool, true, false, List, [], ◌∷◌, ◌++◌, length, replicate, Some, None, refl, sym, ◌∙◌, ap, subst, arith}
+use Rattle.std.proofs.lemmas.List.{length-replicate}
+use Rattle.std.specs.Prelude.{Option, if◌then◌else◌, map, Contains}
+use Rattle.site_types.specs.declared.answer.Answer.{Answer}
+use Rattle.site_types.specs.declared.answer.Answer.TheVariants.{Done, OutOfMemory, DiskFault}
+use Rattle.site_types.specs.declared.image.ImageRecord.{ImageRecord}
+use Rattle.site_types.specs.declared.request.Request.{Request}
+use Rattle.desk_model.specs.State.{State, Image}
+use Rattle.desk_model.specs.Refusals.{first_refusal, unless_refused}
+use Rattle.desk_model.specs.Step.{step}
+use Rattle.desk_rules.specs.Seen.{blank}
+use Rattle.site_desk.specs.Steps.{IsRefused, IsStepRefusal}
+
+-- a refusal that is the model's
+pub refused_as : (s : State) (request : Request) (payload : List ℕ) (moment : ℕ) (a : Answer) → IsStepRefusal a → step s request payload moment ≡ (a, s) → IsRefused s request payload moment a
+refused_as s request payload moment (Done body) plain is = absurd plain.1
+refused_as s request payload moment DiskFault plain is = absurd plain.1
+refused_as s request payload moment OutOfMemory plain is = (tt, refl)
+refused_as s request payload moment a plain is = (sym (ap (λ (p : Answer × State). p.0) is), sym (ap (λ (p : Answer × State). p.1) is))
+
+pub without_memory : (s : State) (request : Request) (payload : List ℕ) (moment : ℕ) → IsRefused s request payload moment OutOfMemory
+without_memory s request payload moment = (tt, refl)
+
+-- refusals that a step may give
+abbrev pub ArePlain : List (Bool × Answer) → Type 0
+ArePlain [] = Unit {0}
+ArePlain (r ∷ rs) = IsStepRefusal r.1 × ArePlain rs
+
+pub first_plain : (refusals : List (Bool × Answer)) (a : Answer) → ArePlain refusals → first_refusal refusals ≡ Some a → IsStepRefusal a
+first_plain [] a plain is = absurd (cc is)
+first_plain (r ∷ rs) a plain is = at r.0 (first_plain rs a plain.1) is
+  where
+    at : (b : Bool) → (first_refusal rs ≡ Some a → IsStepRefusal a) → (if b then Some r.1 else first_refusal rs) ≡ Some a → IsStepRefusal a
+    at true later here = let same : r.1 ≡ a = cc here in subst IsStepRefusal same plain.0
+    at false later there = later there
+
+-- the images that a decision sees have their lengths
+pub sized_seen : (records : List ImageRecord) (i : Image) → Contains (map blank records) i → i.entry.length ≡ length i.bytes
+sized_seen [] i (k, lt, is) = absurd (omega (arith, lt))
+sized_seen (r ∷ rs) i (zero, lt, is) = subst (λ (x : Image). x.entry.length ≡ length x.bytes) is (sym (length-replicate r.length 0))
+sized_seen (r ∷ rs) i (suc k, lt, is) = sized_seen rs i (k, omega (arith, lt), is)

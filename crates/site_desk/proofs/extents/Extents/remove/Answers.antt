@@ -1,0 +1,10 @@
+use Rattle.std.proofs.Common.{◌∙◌, ap, List, None}
+use Rattle.std.specs.Prelude.{cond}
+use Rattle.std.specs.BTreeMap.{is_at}
+use Rattle.site_types.specs.declared.id.BackupId.{BackupId}
+use Rattle.site_desk.specs.Extents.{extent_of, id_cmp}
+use Rattle.site_desk.specs.declared.extents.Extent.{Extent}
+use Rattle.site_desk.proofs.extents.Extents.remove.Goals as goal
+
+pub returns : goal.returns
+returns c q = c.remove.ensures.updates.0 q ∙ ap (λ (es : List (BackupId × Extent)). cond (is_at (id_cmp c.args.id.now) q) None (extent_of q es)) c.self.view_is

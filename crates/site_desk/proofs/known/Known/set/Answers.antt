@@ -1,0 +1,22 @@
+use Rattle.std.proofs.Common.{◌≡◌, ◌∙◌, [], refl, sym}
+use Rattle.site_desk.specs.Known.{built}
+use Rattle.site_desk.proofs.SiteChanges.{state_of, set_so, refused_so, remembered_so}
+use Rattle.site_desk.proofs.known.Known.set.Goals as goal
+
+pub returns-then-not-changes_site-clause-set : goal.returns-then-not-changes_site-clause-set
+returns-then-not-changes_site-clause-set c images stored listed sized =
+    refused_so c.args.self.now c.args.self.now images stored c.args.request.now c.in_ok-decision.decision c.requires.setting
+    (c.in_ok-decision.ensures.decided (built c.args.self.now.site images stored) [] (state_of c.args.self.now images stored listed sized) refl)
+    (sym c.changes_site.ensures ∙ c.if-not-changes_site.true) refl
+
+pub returns-clause-set : goal.returns-clause-set
+returns-clause-set c images stored listed sized =
+    set_so c.args.self.now _ images stored c.args.request.now c.in_ok-decision.decision c.requires.setting
+    (c.in_ok-decision.ensures.decided (built c.args.self.now.site images stored) [] (state_of c.args.self.now images stored listed sized) refl)
+    (sym c.changes_site.ensures ∙ c.if-not-changes_site.false) c.in_ok-change_site.ensures.changed refl refl
+
+pub returns-clause-remembered : goal.returns-clause-remembered
+returns-clause-remembered c records images remembers =
+    remembered_so c.args.self.now _ images [] c.args.request.now c.in_ok-decision.decision c.requires.setting
+    (c.in_ok-decision.ensures.decided (built c.args.self.now.site images []) [] (state_of c.args.self.now images [] remembers.listed remembers.sized) refl)
+    records remembers (sym c.changes_site.ensures ∙ c.if-not-changes_site.false) c.in_ok-change_site.ensures.changed refl refl

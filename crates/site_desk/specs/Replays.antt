@@ -1,0 +1,41 @@
+-- Records that are replayed one by one.
+use Rattle.std.specs.Prelude.{◌≡◌, ◌&&◌, ℕ, Bool, true, false, if◌then◌else◌, List, length, Option, Some, None, option_and_then, Contains}
+use Rattle.std.specs.Result.{result_ok}
+use Rattle.std.specs.Str.{bytes_eq}
+use Rattle.site_types.specs.Lines.{line_of, read_line}
+use Rattle.site_types.specs.declared.request.Request.{Request}
+use Rattle.pool_journal.specs.declared.entry.Entry.{Entry}
+use Rattle.pool_journal.specs.declared.entry.Entry.TheVariants as entry
+use Rattle.pool_journal.specs.Records.{Found}
+use Rattle.desk_model.specs.State.{State, Image, Stored}
+use Rattle.desk_model.specs.Settings.{is_setting}
+use Rattle.site_desk.specs.Known.{built, Remembers}
+use Rattle.site_desk.specs.declared.known.Known.{Known}
+
+-- the entry of an image tells how many bytes stand behind it
+abbrev pub HasLength : Entry → ℕ → Type 0
+HasLength (entry.Settings lines) size = Unit {0}
+HasLength (entry.WholeImage w) size = w.length ≡ size
+
+-- each record does
+abbrev pub AreSized : List Found → Type 0
+AreSized records = (f : Found) → Contains records f → HasLength f.is.entry (length f.is.bytes)
+
+-- the request of a line of settings: one that changes the site, and of which this line is written
+abbrev pub setting_as : List ℕ → Request → Option Request
+setting_as line request = if is_setting request && bytes_eq (line_of request) line then Some request else None
+
+abbrev pub setting_of : List ℕ → Option Request
+setting_of line = option_and_then (setting_as line) (result_ok (read_line line))
+
+-- there is a next state, and of it this is known
+pub record Reaches (records : List Found) (next : Option State) (known : Known) : Type 0 where
+  pub images : List Image
+  pub stored : List Stored
+  pub made : next ≡ Some (built known.site images stored)
+  pub remembers : Remembers records known images
+
+-- whether there is a next state
+abbrev pub IsReached : List Found → Option State → Known → Bool → Type 0
+IsReached records next known true = Reaches records next known
+IsReached records next known false = next ≡ None

@@ -1,0 +1,54 @@
+-- What a step promises, and what is made ready before it writes.
+use Rattle.std.specs.Prelude.{◌≡◌, ◌≢◌, ℕ, ◌+◌, ◌^◌, ◌<◌, Bool, true, false, List, length, Some}
+use Rattle.site_types.specs.declared.answer.Answer.{Answer}
+use Rattle.site_types.specs.declared.answer.Answer.TheVariants.{Done, DiskFault}
+use Rattle.site_types.specs.declared.request.Request.{Request}
+use Rattle.site_types.specs.declared.request.Request.TheVariants.{Backup, Restore}
+use Rattle.vault_disk.specs.Disk.{Disk}
+use Rattle.pool_journal.specs.Entries.{Record, spelled_entry, IsStaged}
+use Rattle.pool_journal.specs.Records.{Found}
+use Rattle.pool_journal.specs.Stops.{with_one}
+use Rattle.desk_model.specs.State.{State, Image, Stored}
+use Rattle.desk_model.specs.Step.{step}
+use Rattle.site_desk.specs.Stands.{apply, Standing, Between}
+use Rattle.site_desk.specs.Known.{built, Remembers}
+use Rattle.site_desk.specs.Desk.{Answered, Moved, reached, IsOfStep, IsOfRequest, IsRefusal}
+use Rattle.site_desk.specs.declared.known.Known.{Known}
+
+-- a step over a vault that tells: what is answered, the state after it, and what a stop leaves
+pub record Steps (s : State) (request : Request) (payload : List ℕ) (moment : ℕ) (answer : Answer) (old new : Disk) (t : State) : Type 0 where
+  pub answers : Answered s request payload moment answer
+  pub moves : Moved s request payload moment answer t
+  pub standing : answer ≢ DiskFault → Standing new t
+  pub stops : Between s (reached s request payload moment answer) old new
+
+-- a request writes a record where it is carried out, but a restore writes none
+abbrev pub is_written : Request → Bool
+is_written (Restore id copy) = false
+is_written request = true
+
+abbrev pub is_backup : Request → Bool
+is_backup (Backup client policy schedule start) = true
+is_backup request = false
+
+-- a record is ready to be written behind these, which takes a state to the one that is known now
+pub record IsReady (records : List Found) (end : ℕ) (s : State) (request : Request) (payload : List ℕ) (moment : ℕ) (staged body : List ℕ) (known : Known) : Type 0 where
+  pub row : Record
+  pub staged_is : IsStaged row staged
+  pub images : List Image
+  pub stored : List Stored
+  pub applies : apply s row ≡ Some (built known.site images stored)
+  pub steps : step s request payload moment ≡ (Done body, built known.site images stored)
+  pub remembers : end + 5 + length (spelled_entry row.entry) < 2 ^ 63 → Remembers (with_one records end row) known images
+
+-- a step is refused so, and nothing is done
+abbrev pub IsRefused : State → Request → List ℕ → ℕ → Answer → Type 0
+IsRefused s request payload moment answer = Answered s request payload moment answer × Moved s request payload moment answer s
+
+-- a refusal that a step may give, but that of a site file
+abbrev pub IsStepRefusal : Answer → Type 0
+IsStepRefusal answer = IsOfStep answer × IsRefusal answer
+
+-- and that too
+abbrev pub IsRefusalOf : Request → List ℕ → Answer → Type 0
+IsRefusalOf request payload answer = IsOfRequest request payload answer × IsRefusal answer

@@ -1,0 +1,108 @@
+// What a desk knows of the records of its journal.
+ghost use Rattle.std.specs.Prelude.{◌≡◌, List, length, Contains, true, None, IfOk, OnOk, OnErr};
+ghost use Rattle.pool_journal.specs.Records.{Found};
+ghost use Rattle.policy_book.specs.Changes.{client_sealed};
+ghost use Rattle.image_catalogue.specs.Images.{record_named, with_record};
+ghost use Rattle.desk_model.specs.State.{Image, Stored, entries};
+ghost use Rattle.desk_model.specs.Settings.{is_setting, site_after};
+ghost use Rattle.site_desk.specs.Extents.{Adds};
+ghost use Rattle.site_desk.specs.Known.{built, Remembers, IsSet, SameKnown, is_settings};
+
+use crate::extents::{Extent, Extents};
+use crate::zone::zone_given;
+use desk_model::Site;
+use desk_rules::{Change, decide};
+use image_catalogue::Catalogue;
+use policy_book::Book;
+use site_types::{Answer, BackupId, ImageRecord, NoMemory, Request};
+use std::alloc::{AllocError, Global};
+
+/// The site, the images, and where their bytes stand.
+#[derive(Drop)]
+pub struct Known {
+    pub site: Site,
+    pub catalogue: Catalogue,
+    pub extents: Extents,
+}
+
+impl Known {
+    /// Carries out a request that changes the site, or answers why it is refused. A refusal, and want of memory, leave all as it
+    /// was.
+    pub fn set(&mut self, alloc: Global, request: &Request) -> Result<Option<Answer>, NoMemory>
+        requires setting { is_setting request.now ≡ true }
+        ensures set { (images : List Image) (stored : List Stored) → entries images ≡ self.old.catalogue → ((i : Image) → Contains images i → i.entry.length ≡ length i.bytes) → IfOk result (IsSet (built self.old.site images stored) request.now self.old self.new) }
+        ensures remembered { (records : List Found) (images : List Image) → Remembers records self.old images → OnOk result (Remembers records self.new images) }
+        ensures unchanged { OnErr result (self.new ≡ self.old) }
+    {
+        let decision = decide(alloc, &self.site, &self.catalogue, request, 0, 0)?;
+        if !changes_site(&decision.change) {
+            return Ok(Some(decision.answer));
+        }
+        change_site(alloc, &mut self.site, request)?;
+        Ok(None)
+    }
+
+    /// Takes in an image that isn't there: its client's last id time is raised, and a client that isn't there is added. Without
+    /// memory all stays as it was.
+    pub fn admit(&mut self, alloc: Global, image: ImageRecord, extent: Extent) -> Result<(), NoMemory>
+        requires new { record_named image.id self.old.catalogue ≡ None }
+        ensures site { OnOk result (self.new.site ≡ record self.old.site { book = client_sealed image.id.client image.id.time self.old.site.book }) }
+        ensures catalogue { OnOk result (self.new.catalogue ≡ with_record image self.old.catalogue) }
+        ensures extents { OnOk result (Adds image.id extent self.old.extents self.new.extents) }
+        ensures site_kept { OnErr result (self.new.site ≡ self.old.site) }
+        ensures unchanged { (records : List Found) (images : List Image) → Remembers records self.old images → OnErr result (SameKnown self.old self.new) }
+    {
+        let id = image.id.copy(alloc)?;
+        self.extents.add(image.id.copy(alloc)?, extent)?;
+        let book = &mut self.site.book;
+        if let Err(fault) = add_image(alloc, book, &mut self.catalogue, image, &id) {
+            self.extents.remove(&id);
+            return Err(fault);
+        }
+        Ok(())
+    }
+}
+
+// Adds an image to the catalogue and notes its time with its client, or does neither.
+fn add_image(
+    alloc: Global,
+    book: &mut Book,
+    catalogue: &mut Catalogue,
+    image: ImageRecord,
+    id: &BackupId,
+) -> Result<(), NoMemory>
+    requires named { id.now ≡ image.id }
+    requires new { record_named image.id catalogue.old ≡ None }
+    ensures book { OnOk result (book.new ≡ client_sealed image.id.client image.id.time book.old) }
+    ensures catalogue { OnOk result (catalogue.new ≡ with_record image catalogue.old) }
+    ensures unchanged { OnErr result ((book.new ≡ book.old) × (catalogue.new ≡ catalogue.old)) }
+{
+    catalogue.add_image(alloc, image)?;
+    let sealed = book.seal_client(alloc, &id.client, id.time);
+    if sealed.is_err() {
+        catalogue.remove_image(id);
+    }
+    sealed
+}
+
+fn changes_site(change: &Change) -> bool
+    ensures { result ≡ is_settings change.now }
+{
+    matches!(change, Change::Settings)
+}
+
+// Makes the change of a request that nothing refuses.
+fn change_site(alloc: Global, site: &mut Site, request: &Request) -> Result<(), NoMemory>
+    requires setting { is_setting request.now ≡ true }
+    ensures changed { OnOk result (site.new ≡ site_after request.now site.old) }
+    ensures unchanged { OnErr result (site.new ≡ site.old) }
+{
+    if let Request::ZoneSet { rule, offset } = request {
+        site.zone = zone_given(alloc, rule.as_ref(), *offset)?;
+        return Ok(());
+    }
+    match site.book.apply(alloc, request) {
+        Ok(()) => Ok(()),
+        Err(_) => Err(AllocError),
+    }
+}

@@ -1,0 +1,96 @@
+// The requests that change the site, as records have them.
+ghost use Rattle.std.specs.Prelude.{◌≡◌, List, true, IfOk, IfSome};
+ghost use Rattle.std.specs.List.{slice_split};
+ghost use Rattle.std.specs.Result.{result_ok};
+ghost use Rattle.std.specs.Str.{bytes_eq};
+ghost use Rattle.site_types.specs.Lines.{is_space, line_of, read_line};
+ghost use Rattle.pool_journal.specs.Records.{Found};
+ghost use Rattle.desk_model.specs.State.{Image, Stored};
+ghost use Rattle.desk_model.specs.Settings.{is_setting};
+ghost use Rattle.site_desk.specs.Stands.{settled, settled_by};
+ghost use Rattle.site_desk.specs.Known.{built, Remembers};
+ghost use Rattle.site_desk.specs.Replays.{setting_of, IsReached};
+
+use crate::known::Known;
+use site_types::{NoMemory, Request, Text, WordFault};
+use std::alloc::{AllocError, Global};
+
+/// It changes the book or the zone.
+pub fn is_setting(request: &Request) -> bool
+    ensures { result ≡ is_setting request.now }
+{
+    !matches!(
+        request,
+        Request::Load | Request::Backup { .. } | Request::Restore { .. }
+    )
+}
+
+// The words of a line: the parts between its single spaces.
+fn split_words(alloc: Global, line: &[u8]) -> Result<Vec<Text>, NoMemory>
+    ensures { IfOk result (λ v. v.items ≡ slice_split is_space line.now) }
+{
+    let mut words = Vec::new(alloc);
+    for word in line.split(|byte| *byte == b' ') {
+        words.push(Text::new(alloc, word)?)?;
+    }
+    Ok(words)
+}
+
+// The request that a line asks for, and None where it is none.
+fn read_line(alloc: Global, line: &[u8]) -> Result<Option<Request>, NoMemory>
+    ensures { IfOk result (λ o. o ≡ result_ok (read_line line.now)) }
+{
+    let words = split_words(alloc, line)?;
+    match Request::read(alloc, &words) {
+        Ok(request) => Ok(Some(request)),
+        Err(WordFault::Bad { .. }) => Ok(None),
+        Err(WordFault::NoMemory) => Err(AllocError),
+    }
+}
+
+fn is_written_so(alloc: Global, request: &Request, line: &[u8]) -> Result<bool, NoMemory>
+    ensures { IfOk result (λ b. b ≡ bytes_eq (line_of request.now) line.now) }
+{
+    let mut written = Vec::new(alloc);
+    request.write_line(alloc, &mut written)?;
+    Ok(written.as_slice() == line)
+}
+
+// The request of a line of settings: one that changes the site, and of which this line is written.
+fn setting_of(alloc: Global, line: &[u8]) -> Result<Option<Request>, NoMemory>
+    ensures request { IfOk result (λ o. o ≡ setting_of line.now) }
+    ensures setting { IfOk result (λ o. IfSome o (λ request. is_setting request ≡ true)) }
+{
+    let Some(request) = read_line(alloc, line)? else {
+        return Ok(None);
+    };
+    let is_written_so = is_written_so(alloc, &request, line)?;
+    if is_setting(&request) && is_written_so {
+        Ok(Some(request))
+    } else {
+        Ok(None)
+    }
+}
+
+// Carries out the request of a line of settings. False where the line is no such request, or it is refused.
+fn settle_line(alloc: Global, known: &mut Known, line: &[u8]) -> Result<bool, NoMemory>
+    ensures { (records : List Found) (images : List Image) (stored : List Stored) → Remembers records known.old images → IfOk result (IsReached records (settled_by (built known.old.site images stored) line.now) known.new) }
+{
+    let Some(request) = setting_of(alloc, line)? else {
+        return Ok(false);
+    };
+    Ok(known.set(alloc, &request)?.is_none())
+}
+
+/// Carries out the requests of lines of settings, one after the other. False where one of them can't be; then nothing is said of
+/// what is known.
+pub fn settle_lines(alloc: Global, known: &mut Known, lines: &[Text]) -> Result<bool, NoMemory>
+    ensures { (records : List Found) (images : List Image) (stored : List Stored) → Remembers records known.old images → IfOk result (IsReached records (settled (built known.old.site images stored) lines.now) known.new) }
+{
+    for line in lines {
+        if !settle_line(alloc, known, line.bytes())? {
+            return Ok(false);
+        }
+    }
+    Ok(true)
+}
