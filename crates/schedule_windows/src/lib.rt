@@ -16,5 +16,5 @@ mod zone;
 pub use civil::Civil;
 pub use next::next_open;
 pub use schedule::{Last, due};
-pub use week::{Opening, open_at};
+pub use week::{Opening, is_any_open, open_at};
 pub use zone::Zone;

@@ -1,6 +1,7 @@
 ghost use Rattle.std.specs.Prelude.{◌≡◌, ◌<◌, ◌≤◌, pos, neg_ℤ, IfSome, Some, length, slice_get, ◌*◌};
+ghost use Rattle.std.specs.List.{list_any};
 ghost use Rattle.jiff_core.specs.Calendar.{IsBetween};
-ghost use Rattle.schedule_windows.specs.Weeks.{spans, window_span, weekday_of, second_of_week, since, start_if_open, first_open};
+ghost use Rattle.schedule_windows.specs.Weeks.{spans, window_span, weekday_of, second_of_week, since, is_open, start_if_open, first_open};
 ghost use Rattle.schedule_windows.specs.Zones.{IsCivil};
 
 use crate::Civil;
@@ -38,6 +39,28 @@ pub fn open_at(windows: &Windows, now: Civil) -> Option<Opening>
         }
     }
     None
+}
+
+/// One of the windows is open at a civil time.
+#[tactic(auto, using(crate::proofs::Walks::any_at, crate::proofs::Walks::any_neither))]
+pub fn is_any_open(windows: &Windows, now: Civil) -> bool
+    requires { IsCivil now }
+    ensures { result ≡ list_any (is_open now) (spans windows.now) }
+{
+    for index in 0..span_count(windows) {
+        if is_span_open(span_at(windows, index), now) {
+            return true;
+        }
+    }
+    false
+}
+
+fn is_span_open(span: WeekSpan, now: Civil) -> bool
+    requires opens { span.opens < 604_800 }
+    requires civil { IsCivil now }
+    ensures { result ≡ is_open now span }
+{
+    since(span, second_of_week(now)) < span.length
 }
 
 // The civil second at which a window opened that is open now.
