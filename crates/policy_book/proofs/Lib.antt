@@ -2,3 +2,4 @@ pub mod ListLemmas
 pub mod BookLemmas
 pub mod RefusalLemmas
 pub mod LineLemmas
+pub mod ClientLemmas

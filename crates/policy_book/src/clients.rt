@@ -1,9 +1,9 @@
 // The clients of a book.
-ghost use Rattle.std.specs.Prelude.{◌≡◌, true, ◌++◌, codes, IfOk};
+ghost use Rattle.std.specs.Prelude.{◌≡◌, true, ◌++◌, codes, IfOk, IsOk, OnOk, OnErr};
 ghost use Rattle.std.specs.Option.{option_copied};
 ghost use Rattle.policy_book.specs.Lists.{has};
 ghost use Rattle.policy_book.specs.Book.{client_name};
-ghost use Rattle.policy_book.specs.Changes.{Applied, client_added, client_add_refusals, client_removed, client_remove_refusals, last_raised, lister};
+ghost use Rattle.policy_book.specs.Changes.{Applied, client_added, client_add_refusals, client_removed, client_remove_refusals, client_sealed, last_of, last_raised, lister};
 ghost use Rattle.policy_book.specs.Refusals.{Allows};
 
 use crate::book::Book;
@@ -34,7 +34,7 @@ impl Book {
     pub fn remove_client(&mut self, alloc: Global, name: &Name) -> Result<(), BookFault>
         ensures { Applied (client_remove_refusals name.now self.old) (client_removed name.now self.old) self.old self.new result }
     {
-        self.check_client_remove(alloc, name)?;
+        self.may_remove_client(alloc, name)?;
         remove(&mut self.clients, name);
         Ok(())
     }
@@ -46,7 +46,8 @@ impl Book {
         check_new(alloc, &self.clients, name)
     }
 
-    fn check_client_remove(&self, alloc: Global, name: &Name) -> Result<(), BookFault>
+    /// Whether a client may be removed: what `remove_client` would answer. A caller that knows more users of clients can ask first.
+    pub fn may_remove_client(&self, alloc: Global, name: &Name) -> Result<(), BookFault>
         ensures { Allows (client_remove_refusals name.now self.now) result }
     {
         known_place(alloc, &self.clients, name)?;
@@ -55,6 +56,39 @@ impl Book {
                 name: Text::new(alloc, name.bytes())?,
                 user: policy_text(alloc, policy.name())?,
             });
+        }
+        Ok(())
+    }
+
+    /// The greatest time of a client's images so far, in seconds since 1970-01-01T00:00:00Z; 0 where no client has this name.
+    pub fn last_of(&self, client: &Name) -> u64
+        ensures { result ≡ last_of client.now self.now }
+    {
+        match self.client(client) {
+            Some(found) => found.last,
+            None => 0,
+        }
+    }
+
+    /// Notes an image of a client with this time, in seconds since 1970-01-01T00:00:00Z: raises the client's greatest time to it,
+    /// and adds the client where it isn't there. It takes memory only for a client that isn't there.
+    pub fn seal_client(&mut self, alloc: Global, client: &Name, time: u64) -> Result<(), NoMemory>
+        ensures sealed { OnOk result (self.new ≡ client_sealed client.now time self.old) }
+        ensures unchanged { OnErr result (self.new ≡ self.old) }
+        ensures there { has client_name client.now self.old.clients ≡ true → IsOk result }
+    {
+        match place(&self.clients, client) {
+            Ok(at) => {
+                let found = &mut self.clients[at];
+                found.last = found.last.max(time);
+            }
+            Err(at) => {
+                let sealed = Client {
+                    name: client.copy(alloc)?,
+                    last: time,
+                };
+                self.clients.insert(at, sealed)?;
+            }
         }
         Ok(())
     }

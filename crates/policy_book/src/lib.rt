@@ -1,6 +1,7 @@
 //! The book of a site: its units, clients, lifecycles and policies, and each change of them.
 #![tactic(auto)]
 
+mod apply;
 mod book;
 mod client;
 mod clients;
@@ -27,8 +28,3 @@ pub use units::{NewUnit, UnitChange};
 
 /// No memory was left.
 pub type NoMemory = std::alloc::AllocError;
-
-#[cfg(test)]
-mod site_tests;
-#[cfg(test)]
-mod tests;

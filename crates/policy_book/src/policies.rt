@@ -60,7 +60,7 @@ impl Book {
     pub fn remove_policy(&mut self, alloc: Global, name: &Name) -> Result<(), BookFault>
         ensures { Applied (policy_remove_refusals name.now self.old) (policy_removed name.now self.old) self.old self.new result }
     {
-        self.check_policy_remove(alloc, name)?;
+        self.may_remove_policy(alloc, name)?;
         remove(&mut self.policies, name);
         Ok(())
     }
@@ -115,7 +115,8 @@ impl Book {
         Ok(at)
     }
 
-    fn check_policy_remove(&self, alloc: Global, name: &Name) -> Result<(), BookFault>
+    /// Whether a policy may be removed: what `remove_policy` would answer. A caller that knows more users of policies can ask first.
+    pub fn may_remove_policy(&self, alloc: Global, name: &Name) -> Result<(), BookFault>
         ensures { Allows (policy_remove_refusals name.now self.now) result }
     {
         known_place(alloc, &self.policies, name)?;
