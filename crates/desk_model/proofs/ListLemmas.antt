@@ -2,8 +2,9 @@
 use Rattle.std.proofs.Common.{◌≡◌, Bool, true, false, List, [], ◌∷◌, refl, ◌∙◌, ap}
 use Rattle.std.specs.Prelude.{if◌then◌else◌, Option, Some, option_map, find}
 use Rattle.site_types.specs.declared.answer.Answer.{Answer}
+use Rattle.site_types.specs.declared.image.ImageRecord.{ImageRecord}
 use Rattle.image_catalogue.specs.Images.{is_before}
-use Rattle.desk_model.specs.State.{Image, with_image}
+use Rattle.desk_model.specs.State.{Image, with_image, entries}
 use Rattle.desk_model.specs.Refusals.{first_refusal}
 
 pub with_image_here : (new : Image) (image : Image) (images : List Image) → is_before new.entry.id image.entry.id ≡ true → with_image new (image ∷ images) ≡ new ∷ image ∷ images
@@ -16,6 +17,15 @@ chosen : (b : Bool) (r : Bool × Answer) (o : Option (Bool × Answer)) → (if b
 chosen true r o = refl
 chosen false r o = refl
 
+entry_chosen : (b : Bool) (i : Image) (o : Option Image) → option_map (λ (x : Image). x.entry) (if b then Some i else o) ≡ (if b then Some i.entry else option_map (λ (x : Image). x.entry) o)
+entry_chosen true i o = refl
+entry_chosen false i o = refl
+
 pub first_refusal_found : (refusals : List (Bool × Answer)) → first_refusal refusals ≡ option_map (λ (r : Bool × Answer). r.1) (find (λ (r : Bool × Answer). r.0) refusals)
 first_refusal_found [] = refl
 first_refusal_found (r ∷ rs) = ap (λ (o : Option Answer). if r.0 then Some r.1 else o) (first_refusal_found rs) ∙ chosen r.0 r (find (λ (x : Bool × Answer). x.0) rs)
+
+-- the first image of which something holds, and what the catalogue has of it
+pub find_entries : (p : ImageRecord → Bool) (images : List Image) → option_map (λ (i : Image). i.entry) (find (λ (i : Image). p i.entry) images) ≡ find p (entries images)
+find_entries p [] = refl
+find_entries p (i ∷ images) = entry_chosen (p i.entry) i _ ∙ ap (λ (o : Option ImageRecord). if p i.entry then Some i.entry else o) (find_entries p images)

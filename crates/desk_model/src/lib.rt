@@ -2,6 +2,10 @@
 //! that.
 #![tactic(auto)]
 
+mod image;
+mod piece;
+mod refusal;
+mod restore;
 mod site;
 
 pub use site::Site;
