@@ -7,5 +7,6 @@ mod piece;
 mod refusal;
 mod restore;
 mod site;
+mod stored;
 
 pub use site::Site;
