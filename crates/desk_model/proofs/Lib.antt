@@ -1,2 +1,3 @@
 pub mod PieceLemmas
 pub mod ListLemmas
+pub mod SettingLemmas

@@ -1,6 +1,6 @@
 -- Walks over clients and images.
-use Rattle.std.proofs.Common.{◌≡◌, Bool, true, false, List, [], ◌∷◌, refl, ◌∙◌, ap}
-use Rattle.std.specs.Prelude.{if◌then◌else◌, Option, Some, option_map, find}
+use Rattle.std.proofs.Common.{◌≡◌, Bool, true, false, List, [], ◌∷◌, ◌++◌, refl, ◌∙◌, ap}
+use Rattle.std.specs.Prelude.{if◌then◌else◌, Option, Some, None, option_map, find}
 use Rattle.site_types.specs.declared.answer.Answer.{Answer}
 use Rattle.site_types.specs.declared.image.ImageRecord.{ImageRecord}
 use Rattle.image_catalogue.specs.Images.{is_before}
@@ -29,3 +29,19 @@ first_refusal_found (r ∷ rs) = ap (λ (o : Option Answer). if r.0 then Some r.
 pub find_entries : (p : ImageRecord → Bool) (images : List Image) → option_map (λ (i : Image). i.entry) (find (λ (i : Image). p i.entry) images) ≡ find p (entries images)
 find_entries p [] = refl
 find_entries p (i ∷ images) = entry_chosen (p i.entry) i _ ∙ ap (λ (o : Option ImageRecord). if p i.entry then Some i.entry else o) (find_entries p images)
+
+here : (b : Bool) (a : Answer) (rs more : List (Bool × Answer)) (answer : Answer) → (if b then Some a else first_refusal rs) ≡ Some answer → (first_refusal rs ≡ Some answer → first_refusal (rs ++ more) ≡ Some answer) → (if b then Some a else first_refusal (rs ++ more)) ≡ Some answer
+here true a rs more answer e rest = e
+here false a rs more answer e rest = rest e
+
+later : (b : Bool) (a : Answer) (rs more : List (Bool × Answer)) → (if b then Some a else first_refusal rs) ≡ None → (first_refusal rs ≡ None → first_refusal (rs ++ more) ≡ first_refusal more) → (if b then Some a else first_refusal (rs ++ more)) ≡ first_refusal more
+later true a rs more e rest = absurd (cc)
+later false a rs more e rest = rest e
+
+pub first_refusal_here : (rs more : List (Bool × Answer)) (answer : Answer) → first_refusal rs ≡ Some answer → first_refusal (rs ++ more) ≡ Some answer
+first_refusal_here [] more answer e = absurd (cc)
+first_refusal_here (r ∷ rs) more answer e = here r.0 r.1 rs more answer e (first_refusal_here rs more answer)
+
+pub first_refusal_later : (rs more : List (Bool × Answer)) → first_refusal rs ≡ None → first_refusal (rs ++ more) ≡ first_refusal more
+first_refusal_later [] more e = refl
+first_refusal_later (r ∷ rs) more e = later r.0 r.1 rs more e (first_refusal_later rs more)

@@ -2,6 +2,7 @@
 //! that.
 #![tactic(auto)]
 
+mod draft;
 mod image;
 mod piece;
 mod refusal;
