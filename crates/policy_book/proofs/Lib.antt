@@ -3,3 +3,4 @@ pub mod BookLemmas
 pub mod RefusalLemmas
 pub mod LineLemmas
 pub mod ClientLemmas
+pub mod RequestLemmas

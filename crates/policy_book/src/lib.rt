@@ -17,13 +17,14 @@ mod request_lines;
 mod schedules;
 mod selections;
 mod site_file;
+mod site_requests;
 mod units;
 
 pub use book::Book;
 pub use client::Client;
 pub use fault::{BookFault, LoadFault};
 pub use policy::Policy;
-pub use site_file::site_lines;
+pub use site_requests::load;
 pub use units::{NewUnit, UnitChange};
 
 /// No memory was left.

@@ -1,4 +1,4 @@
-use Rattle.std.proofs.Common.{◌≡◌, ◌∙◌, sym, ap, refl}
+use Rattle.std.proofs.Common.{◌∙◌, ap, refl}
 use Rattle.policy_book.specs.declared.client.Client.{Client}
 use Rattle.policy_book.specs.Book.{client_name}
 use Rattle.policy_book.specs.Changes.{client_sealed}
