@@ -44,68 +44,7 @@ book_first (r ∷ rs) = answered r.0 r.1 _ _ (book_first rs)
 pub refused_by_book : (request : Request) (s : State) (answer : Answer) → book_refusal request s.site.book ≡ Some answer → first_refusal (setting_refusals request s) ≡ Some answer
 refused_by_book request s answer e = first_refusal_here (map (λ (r : Bool × BookFault). (r.0, refusal_answer r.1)) (refusals_of request s.site.book)) (use_refusals request s) answer (book_first (refusals_of request s.site.book) ∙ e)
 
--- and where there is none of these, the first by a use
-pub refused_by_use : (request : Request) (s : State) → book_refusal request s.site.book ≡ None → first_refusal (setting_refusals request s) ≡ first_refusal (use_refusals request s)
-refused_by_use request s e = first_refusal_later (map (λ (r : Bool × BookFault). (r.0, refusal_answer r.1)) (refusals_of request s.site.book)) (use_refusals request s) (book_first (refusals_of request s.site.book) ∙ e)
-
-pub site_set : (request : Request) (book : Book) (old : Option ZoneOf) (zone : ZoneOf) → site_after request (record { book = book; zone = unwrap_or old zone }) ≡ record { book = book_after request book; zone = unwrap_or (zone_after request old) zone }
-site_set (UnitAdd name capacity segment fragment slots high low) book old zone = refl
-site_set (UnitChange name capacity slots high low) book old zone = refl
-site_set (ClientAdd name) book old zone = refl
-site_set (ClientRemove name) book old zone = refl
-site_set (PolicyAdd policy policy_type lifecycle) book old zone = refl
-site_set (PolicyChange policy active lifecycle) book old zone = refl
-site_set (PolicyRemove policy) book old zone = refl
-site_set (PolicyClientAdd policy client) book old zone = refl
-site_set (PolicyClientRemove policy client) book old zone = refl
-site_set (PolicySelect policy path) book old zone = refl
-site_set (PolicyUnselect policy path) book old zone = refl
-site_set (ScheduleAdd policy schedule kind frequency calendar windows) book old zone = refl
-site_set (ScheduleChange policy schedule kind frequency calendar windows) book old zone = refl
-site_set (ScheduleRemove policy schedule) book old zone = refl
-site_set (ZoneSet rule offset) book old zone = refl
-site_set Load book old zone = refl
-site_set (Backup client policy schedule start) book old zone = refl
-site_set (Restore id copy) book old zone = refl
-
 -- The ends of a request on a draft.
 
 pub sets_book_refused : (request : Request) (old new : State) (answer : Answer) → Some answer ≡ book_refusal request old.site.book → Sets request old new (Some answer)
 sets_book_refused request old new answer e = record { refusal = sym (refused_by_book request old answer (sym e)); done = λ none. absurd (cc) }
-
-pub sets_use_refused : (request : Request) (old new : State) (rs : List (Bool × Answer)) (answer : Answer) → None ≡ book_refusal request old.site.book → rs ≡ use_refusals request old → Some answer ≡ first_refusal rs → Sets request old new (Some answer)
-sets_use_refused request old new rs answer none rs_is e = record {
-  refusal = e ∙ ap first_refusal rs_is ∙ sym (refused_by_use request old (sym none));
-  done = λ no. absurd (cc);
-}
-
-state_set : (request : Request) (zone : ZoneOf) (images : List Image) (old new : Draft) → new.book ≡ book_after request old.book → new.zone ≡ zone_after request old.zone → new.stored.items ≡ stored_after request old.stored.items
-    → draft_state zone images new ≡ set_by request (draft_state zone images old)
-state_set request zone images old new book_is zone_is stored_is =
-    (λ i. plain_state (record { book = book_is i; zone = unwrap_or (zone_is i) zone }) images (stored_is i))
-    ∙ ap (λ (site : Site). plain_state site images (stored_after request old.stored.items)) (sym (site_set request old.book old.zone zone))
-
-pub sets_done : (request : Request) (zone : ZoneOf) (images : List Image) (old new : Draft) (rs : List (Bool × Answer)) → None ≡ book_refusal request old.book → rs ≡ use_refusals request (draft_state zone images old) → None ≡ first_refusal rs
-    → new.book ≡ book_after request old.book → new.zone ≡ zone_after request old.zone → new.stored.items ≡ stored_after request old.stored.items
-    → Sets request (draft_state zone images old) (draft_state zone images new) None
-sets_done request zone images old new rs none rs_is e book_is zone_is stored_is = record {
-  refusal = e ∙ ap first_refusal rs_is ∙ sym (refused_by_use request (draft_state zone images old) (sym none));
-  done = λ _. state_set request zone images old new book_is zone_is stored_is;
-}
-
--- Requests one after another.
-
-next_request : (requests : List Request) (i : ℕ) (request : Request) → i < length requests → request ≡ get_or requests i request → drop i requests ≡ request ∷ drop (i + 1) requests
-next_request requests i request within is = drop-cons requests i request within ∙ (λ j. sym is j ∷ drop (sym (add-one i) j) requests)
-
-first_set : (request : Request) (requests : List Request) (old new : State) (answer : Option Answer) → Sets request old new answer → all_set (request ∷ requests) old ≡ option_map_or (λ a. Err a) answer (all_set requests (set_by request old))
-first_set request requests old new answer sets = ap (λ (o : Option Answer). option_map_or (λ a. Err a) o (all_set requests (set_by request old))) (sym sets.refusal)
-
-pub all_set_refused : (requests : List Request) (i : ℕ) (request : Request) (old new : State) (answer : Answer) → i < length requests → request ≡ get_or requests i request → Sets request old new (Some answer) → all_set (drop i requests) old ≡ Err answer
-all_set_refused requests i request old new answer within is sets = ap (λ (rs : List Request). all_set rs old) (next_request requests i request within is) ∙ first_set request (drop (i + 1) requests) old new (Some answer) sets
-
-pub all_set_more : (requests : List Request) (i : ℕ) (request : Request) (old new : State) → i < length requests → request ≡ get_or requests i request → Sets request old new None → all_set (drop i requests) old ≡ all_set (drop (i + 1) requests) new
-all_set_more requests i request old new within is sets =
-    ap (λ (rs : List Request). all_set rs old) (next_request requests i request within is)
-    ∙ first_set request (drop (i + 1) requests) old new None sets
-    ∙ ap (λ (s : State). all_set (drop (i + 1) requests) s) (sym (sets.done refl))

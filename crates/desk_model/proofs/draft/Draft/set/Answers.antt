@@ -1,5 +1,5 @@
 use Rattle.std.proofs.Common.{sym, ◌∙◌}
-use Rattle.desk_model.proofs.SettingLemmas.{sets_book_refused, sets_use_refused, sets_done}
+use Rattle.desk_model.proofs.SettingLemmas.{sets_book_refused}
 use Rattle.desk_model.proofs.draft.Draft.set.Goals as goal
 
 pub returns-in-Some : goal.returns-in-Some
