@@ -1,3 +1,4 @@
 pub mod PieceLemmas
 pub mod ListLemmas
 pub mod SettingLemmas
+pub mod StateLemmas

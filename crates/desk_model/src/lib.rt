@@ -2,12 +2,15 @@
 //! that.
 #![tactic(auto)]
 
+mod asked;
 mod draft;
 mod image;
+mod name;
 mod piece;
 mod refusal;
 mod restore;
 mod site;
 mod stored;
+mod under;
 
 pub use site::Site;
