@@ -6,7 +6,7 @@ ghost use Rattle.slp_tree.specs.Lifecycles.{version_named};
 ghost use Rattle.policy_book.specs.Book.{disk0, schedule_name};
 ghost use Rattle.policy_book.specs.Lists.{named};
 ghost use Rattle.policy_book.specs.Changes.{pair_text};
-ghost use Rattle.desk_model.specs.Backups.{default_schedule, has_open, is_waiting, latest_version, schedule_chosen, states_of, takes_all, unit_at, unit_of};
+ghost use Rattle.desk_model.specs.Backups.{backup_unit, default_schedule, has_open, is_waiting, latest_version, schedule_chosen, states_of, takes_all, unit_at, unit_of};
 
 use crate::name::built_in;
 use policy_book::{Book, Policy};
@@ -80,6 +80,13 @@ pub fn first_unit(version: &Slp) -> &Name
 {
     let _count = version.count();
     version.unit(0)
+}
+
+/// The unit to which backups under a policy go.
+pub fn backup_unit<'a>(policy: &Policy, book: &'a Book) -> Result<&'a Name, NoMemory>
+    ensures { IfOk result (λ unit. unit.now ≡ backup_unit policy.now book.now) }
+{
+    Ok(first_unit(version(policy.lifecycle(), book)?))
 }
 
 /// What an image is sealed with: its first operation is complete, and the others wait.

@@ -1,0 +1,67 @@
+-- Backups that nothing refuses, and images that are sealed.
+use Rattle.std.proofs.Common.{◌≡◌, ℕ, zero, suc, ◌+◌, ◌*◌, ◌<◌, ◌≤◌, Bool, true, false, not, List, [], ◌∷◌, ◌++◌, length, refl, sym, ◌∙◌, ap, arith}
+use Rattle.std.specs.Prelude.{if◌then◌else◌, nat_le, nat_lt, is_none, IsSome, Option, Some, None}
+use Rattle.std.proofs.lemmas.Bool.Decides.{nat_tests}
+use Rattle.site_types.specs.declared.answer.Answer.{Answer}
+use Rattle.site_types.specs.Limits.{last_moment, payload_limit}
+use Rattle.image_catalogue.specs.Images.{is_before, bytes_on, used}
+use Rattle.desk_model.specs.State.{State, Image, with_image, entries}
+use Rattle.desk_model.specs.Refusals.{first_refusal}
+use Rattle.desk_model.specs.Backups.{Asked, image_limit, policy_asked, schedule_asked, new_time, backup_refusals}
+use Rattle.desk_model.specs.Plain.{IsSmall, IsAllowed}
+
+-- none of the refusals of a list holds
+abbrev NoneHolds : List (Bool × Answer) → Type 0
+NoneHolds [] = Unit {0}
+NoneHolds (r ∷ rs) = (r.0 ≡ false) × NoneHolds rs
+
+after_first : (b : Bool) (answer : Answer) (rs : List (Bool × Answer)) → (if b then Some answer else first_refusal rs) ≡ None → (first_refusal rs ≡ None → NoneHolds rs) → (b ≡ false) × NoneHolds rs
+after_first true answer rs e others = absurd (cc)
+after_first false answer rs e others = (refl, others e)
+
+none_holds : (rs : List (Bool × Answer)) → first_refusal rs ≡ None → NoneHolds rs
+none_holds [] e = tt
+none_holds (r ∷ rs) e = after_first r.0 r.1 rs e (none_holds rs)
+
+is_there : {A : Type 0} (o : Option A) → is_none o ≡ false → IsSome o
+is_there None e = absurd (cc)
+is_there (Some x) e = refl
+
+not_le : (a b : ℕ) → nat_le a b ≡ false → b < a
+not_le a b e = grind (arith, nat_tests)
+
+not_lt : (a b : ℕ) → nat_lt a b ≡ false → b ≤ a
+not_lt a b e = grind (arith, nat_tests)
+
+pub is_allowed : (asked : Asked) (moment : ℕ) (s : State) → first_refusal (backup_refusals asked moment s) ≡ None → IsAllowed asked moment s
+is_allowed asked moment s e =
+    let h : NoneHolds (backup_refusals asked moment s) = none_holds (backup_refusals asked moment s) e in
+    record {
+      few = not_le image_limit (length s.images) h.0;
+      policy = is_there (policy_asked asked s) h.1.0;
+      schedule = is_there (schedule_asked asked s) h.1.1.1.1.1.0;
+      time = not_lt last_moment (new_time asked.client moment s) h.1.1.1.1.1.1.1.1.1.0;
+    }
+
+length-at : (b : Bool) (new i : Image) (images rest : List Image) → length rest ≡ length images + 1 → length (if b then new ∷ i ∷ images else i ∷ rest) ≡ length images + 2
+length-at true new i images rest e = grind arith
+length-at false new i images rest e = grind arith
+
+length-with_image : (new : Image) (images : List Image) → length (with_image new images) ≡ length images + 1
+length-with_image new [] = grind arith
+length-with_image new (i ∷ images) = omega (arith, length-at (is_before new.entry.id i.entry.id) new i images (with_image new images) (length-with_image new images))
+
+used-at : (b : Bool) (unit : List ℕ) (new i : Image) (images rest : List Image) → used unit (entries rest) ≡ bytes_on unit new.entry.length new.entry.copies + used unit (entries images)
+    → used unit (entries (if b then new ∷ i ∷ images else i ∷ rest)) ≡ bytes_on unit new.entry.length new.entry.copies + used unit (entries (i ∷ images))
+used-at true unit new i images rest e = refl
+used-at false unit new i images rest e = omega arith
+
+used-with_image : (unit : List ℕ) (new : Image) (images : List Image) → used unit (entries (with_image new images)) ≡ bytes_on unit new.entry.length new.entry.copies + used unit (entries images)
+used-with_image unit new [] = refl
+used-with_image unit new (i ∷ images) = used-at (is_before new.entry.id i.entry.id) unit new i images (with_image new images) (used-with_image unit new images)
+
+pub is_small_with : (new : Image) (images : List Image) → IsSmall images → length images < image_limit → ((unit : List ℕ) → bytes_on unit new.entry.length new.entry.copies ≤ payload_limit) → IsSmall (with_image new images)
+is_small_with new images small few short = record {
+  few = omega (arith, length-with_image new images);
+  held = λ unit. omega (arith, length-with_image new images, used-with_image unit new images, small.held unit, short unit);
+}
