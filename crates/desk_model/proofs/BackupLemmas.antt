@@ -1,14 +1,18 @@
 -- Backups that nothing refuses, and images that are sealed.
 use Rattle.std.proofs.Common.{◌≡◌, ℕ, zero, suc, ◌+◌, ◌*◌, ◌<◌, ◌≤◌, Bool, true, false, not, List, [], ◌∷◌, ◌++◌, length, refl, sym, ◌∙◌, ap, arith}
-use Rattle.std.specs.Prelude.{if◌then◌else◌, nat_le, nat_lt, is_none, IsSome, Option, Some, None}
+use Rattle.std.specs.Prelude.{if◌then◌else◌, nat_le, nat_lt, is_none, IsSome, unwrap_or, Option, Some, None}
 use Rattle.std.proofs.lemmas.Bool.Decides.{nat_tests}
 use Rattle.site_types.specs.declared.answer.Answer.{Answer}
 use Rattle.site_types.specs.Limits.{last_moment, payload_limit}
+use Rattle.site_types.specs.declared.schedule.Schedule.{Schedule}
+use Rattle.site_types.specs.declared.unit.Unit.{Unit as StorageUnit}
+use Rattle.policy_book.specs.Book.{Policy, adhoc}
 use Rattle.image_catalogue.specs.Images.{is_before, bytes_on, used}
 use Rattle.desk_model.specs.State.{State, Image, with_image, entries}
 use Rattle.desk_model.specs.Refusals.{first_refusal}
-use Rattle.desk_model.specs.Backups.{Asked, image_limit, policy_asked, schedule_asked, new_time, backup_refusals}
+use Rattle.desk_model.specs.Backups.{Asked, image_limit, policy_asked, schedule_asked, schedule_chosen, backup_unit, unit_at, new_time, client_refusals, room_refusals, backup_refusals}
 use Rattle.desk_model.specs.Plain.{IsSmall, IsAllowed}
+use Rattle.desk_model.proofs.ListLemmas.{first_refusal_here, first_refusal_later}
 
 -- none of the refusals of a list holds
 abbrev NoneHolds : List (Bool × Answer) → Type 0
@@ -42,6 +46,34 @@ is_allowed asked moment s e =
       schedule = is_there (schedule_asked asked s) h.1.1.1.1.1.0;
       time = not_lt last_moment (new_time asked.client moment s) h.1.1.1.1.1.1.1.1.1.0;
     }
+
+abbrev under : Asked → ℕ → State → Policy → List (Bool × Answer)
+under asked moment s policy =
+    let unit = unit_at (backup_unit policy s.site.book) s.site.book in
+    room_refusals asked policy (schedule_chosen asked.schedule policy) unit (used unit.name (entries s.images)) moment s
+
+abbrev rest_of : Asked → ℕ → State → List (Bool × Answer)
+rest_of asked moment s = under asked moment s (unwrap_or (policy_asked asked s) adhoc)
+
+-- a refusal before a schedule is found
+pub refused_first : (asked : Asked) (moment : ℕ) (s : State) (policy : Option Policy) (rs : List (Bool × Answer)) (answer : Answer) → policy ≡ policy_asked asked s → rs ≡ client_refusals asked policy s → first_refusal rs ≡ Some answer
+    → Some answer ≡ first_refusal (backup_refusals asked moment s)
+refused_first asked moment s policy rs answer policy_is rs_is e =
+    let now : first_refusal (client_refusals asked (policy_asked asked s) s) ≡ Some answer = ap (λ (p : Option Policy). first_refusal (client_refusals asked p s)) (sym policy_is) ∙ ap first_refusal (sym rs_is) ∙ e in
+    sym (first_refusal_here (client_refusals asked (policy_asked asked s) s) (rest_of asked moment s) answer now)
+
+-- and the first of the others
+pub refused_later : (asked : Asked) (moment : ℕ) (s : State) (found : Option Policy) (policy : Policy) (schedule : Option Schedule) (unit : StorageUnit) (rs more : List (Bool × Answer)) (answer : Option Answer) → found ≡ policy_asked asked s → rs ≡ client_refusals asked found s → first_refusal rs ≡ None
+    → found ≡ Some policy → schedule ≡ schedule_chosen asked.schedule policy → unit ≡ unit_at (backup_unit policy s.site.book) s.site.book → more ≡ room_refusals asked policy schedule unit (used unit.name (entries s.images)) moment s → answer ≡ first_refusal more
+    → answer ≡ first_refusal (backup_refusals asked moment s)
+refused_later asked moment s found policy schedule unit rs more answer found_is rs_is e policy_is schedule_is unit_is more_is answer_is =
+    let now : first_refusal (client_refusals asked (policy_asked asked s) s) ≡ None = ap (λ (p : Option Policy). first_refusal (client_refusals asked p s)) (sym found_is) ∙ ap first_refusal (sym rs_is) ∙ e in
+    let there : Some policy ≡ policy_asked asked s = sym policy_is ∙ found_is in
+    let rooms : more ≡ rest_of asked moment s =
+        more_is
+        ∙ (λ i. room_refusals asked policy (schedule_is i) (unit_is i) (used (unit_is i).name (entries s.images)) moment s)
+        ∙ ap (λ (p : Option Policy). under asked moment s (unwrap_or p adhoc)) there in
+    answer_is ∙ ap first_refusal rooms ∙ sym (first_refusal_later (client_refusals asked (policy_asked asked s) s) (rest_of asked moment s) now)
 
 length-at : (b : Bool) (new i : Image) (images rest : List Image) → length rest ≡ length images + 1 → length (if b then new ∷ i ∷ images else i ∷ rest) ≡ length images + 2
 length-at true new i images rest e = grind arith

@@ -21,7 +21,7 @@ use crate::refusal::first_refusal;
 use crate::stored::with_stored;
 use crate::under::{
     backup_unit, first_unit, is_waiting, latest_version, pair_text, schedule_chosen, states_of, takes_all,
-    unit_at, version,
+    unit_at, unit_under, version,
 };
 use policy_book::{Book, Policy};
 use schedule_windows::Zone;
@@ -72,17 +72,29 @@ impl PlainDesk {
         ensures refusal { IfOk result (λ r. r ≡ first_refusal (backup_refusals asked.now moment self.now)) }
         ensures allowed { IfOk result (λ r. r ≡ None → IsAllowed asked.now moment self.now) }
     {
-        let policy = self.site.book.policy(&asked.policy);
+        let policy = self.policy_asked(asked);
         if let Some(answer) = first_refusal(self.client_refusals(alloc, asked, policy)?) {
             return Ok(Some(answer));
         }
         let Some(policy) = policy else {
             unreachable!();
         };
-        let schedule = schedule_chosen(asked.schedule.as_ref(), policy);
-        let unit = unit_at(alloc, backup_unit(policy, &self.site.book)?, &self.site.book)?;
+        let schedule = schedule_asked(asked, policy);
+        let unit = self.unit_under(alloc, policy)?;
         let refusals = self.room_refusals(alloc, asked, policy, schedule, &unit, moment)?;
         Ok(first_refusal(refusals))
+    }
+
+    fn policy_asked(&self, asked: &PlainAsked) -> Option<&Policy>
+        ensures { option_copied result ≡ policy_asked asked.now self.now }
+    {
+        self.site.book.policy(&asked.policy)
+    }
+
+    fn unit_under(&self, alloc: Global, policy: &Policy) -> Result<Unit, NoMemory>
+        ensures { IfOk result (λ unit. unit ≡ unit_at (backup_unit policy.now self.now.site.book) self.now.site.book) }
+    {
+        unit_under(alloc, policy, &self.site.book)
     }
 
     // The refusals that come before a schedule is found.
@@ -155,13 +167,13 @@ impl PlainDesk {
         ensures image { IfOk result (λ r. r.0 ≡ backup_image asked.now.client (unwrap_or (policy_asked asked.now self.now) adhoc) (unwrap_or (schedule_asked asked.now self.now) manual) payload.now moment self.now) }
         ensures unit { IfOk result (λ r. r.1 ≡ backup_unit (unwrap_or (policy_asked asked.now self.now) adhoc) self.now.site.book) }
     {
+        let Some(policy) = self.policy_asked(asked) else {
+            unreachable!();
+        };
+        let Some(schedule) = schedule_asked(asked, policy) else {
+            unreachable!();
+        };
         let book = &self.site.book;
-        let Some(policy) = book.policy(&asked.policy) else {
-            unreachable!();
-        };
-        let Some(schedule) = schedule_chosen(asked.schedule.as_ref(), policy) else {
-            unreachable!();
-        };
         let id = BackupId {
             client: asked.client.copy(alloc)?,
             time: self.new_time(&asked.client, moment),
@@ -194,6 +206,12 @@ impl PlainDesk {
         self.stored = stored;
         Ok(())
     }
+}
+
+fn schedule_asked<'a>(asked: &PlainAsked, policy: &'a Policy) -> Option<&'a Schedule>
+    ensures { option_copied result ≡ schedule_chosen asked.now.schedule policy.now }
+{
+    schedule_chosen(asked.schedule.as_ref(), policy)
 }
 
 fn unknown(alloc: Global, name: &[u8]) -> Result<Answer, NoMemory>

@@ -127,6 +127,15 @@ pub fn unit_at(alloc: Global, name: &Name, book: &Book) -> Result<Unit, NoMemory
     }
 }
 
+/// The unit to which backups under a policy go, with its setting.
+pub fn unit_under(alloc: Global, policy: &Policy, book: &Book) -> Result<Unit, NoMemory>
+    ensures { IfOk result (λ unit. unit ≡ unit_at (backup_unit policy.now book.now) book.now) }
+{
+    let name = backup_unit(policy, book)?;
+    let unit = unit_at(alloc, name, book)?;
+    Ok(unit)
+}
+
 fn has_open(
     alloc: Global,
     zone: &Zone,
