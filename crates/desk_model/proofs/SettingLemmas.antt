@@ -2,8 +2,10 @@
 use Rattle.std.proofs.Common.{◌≡◌, ℕ, ◌+◌, ◌<◌, Bool, true, false, List, [], ◌∷◌, length, get_or, drop, refl, sym, ◌∙◌, ap, add-one, drop-cons}
 use Rattle.std.specs.Prelude.{if◌then◌else◌, map, Option, Some, None, option_map, unwrap_or, find, Err}
 use Rattle.std.specs.Option.{option_map_or}
-use Rattle.std.specs.Str.{bytes_eq}
+use Rattle.std.specs.Str.{bytes_eq, is_utf8, IsUtf8}
+use Rattle.std.proofs.lemmas.Str.{IsUtf8-from_is_utf8, is_utf8-from_IsUtf8}
 use Rattle.site_types.specs.declared.answer.Answer.{Answer}
+use Rattle.site_types.specs.declared.answer.Answer.TheVariants.{BadRequest}
 use Rattle.site_types.specs.declared.image.ImageRecord.{ImageRecord}
 use Rattle.site_types.specs.declared.request.Request.{Request}
 use Rattle.site_types.specs.declared.request.Request.TheVariants.{UnitAdd, UnitChange, ClientAdd, ClientRemove, PolicyAdd, PolicyChange, PolicyRemove, PolicyClientAdd, PolicyClientRemove, PolicySelect, PolicyUnselect, ScheduleAdd, ScheduleChange, ScheduleRemove, ZoneSet, Load, Backup, Restore}
@@ -12,11 +14,12 @@ use Rattle.policy_book.specs.declared.fault.BookFault.{BookFault}
 use Rattle.policy_book.specs.Book.{Book}
 use Rattle.policy_book.specs.Changes as changes
 use Rattle.policy_book.specs.Requests.{refusals_of, book_after}
+use Rattle.policy_book.specs.SiteFile.{site_requests}
 use Rattle.desk_model.specs.declared.draft.Draft.{Draft}
 use Rattle.desk_model.specs.declared.site.Site.{Site}
 use Rattle.desk_model.specs.State.{State, Image, Stored, entries}
 use Rattle.desk_model.specs.Refusals.{first_refusal}
-use Rattle.desk_model.specs.Settings.{refusal_answer, used_by, use_refusals, setting_refusals, site_after, stored_after, set_by, all_set}
+use Rattle.desk_model.specs.Settings.{refusal_answer, used_by, use_refusals, setting_refusals, site_after, stored_after, set_by, all_set, load_of, load_result, load_step}
 use Rattle.desk_model.specs.Plain.{plain_state, draft_state, book_refusal, zone_after, Sets}
 use Rattle.desk_model.proofs.ListLemmas.{find_entries, first_refusal_here, first_refusal_later}
 
@@ -48,3 +51,19 @@ refused_by_book request s answer e = first_refusal_here (map (λ (r : Bool × Bo
 
 pub sets_book_refused : (request : Request) (old new : State) (answer : Answer) → Some answer ≡ book_refusal request old.site.book → Sets request old new (Some answer)
 sets_book_refused request old new answer e = record { refusal = sym (refused_by_book request old answer (sym e)); done = λ none. absurd (cc) }
+
+-- Site files.
+
+file-text : (b : Bool) (payload : List ℕ) (requests : List Request) → b ≡ true → site_requests payload ≡ Some requests → (if b then site_requests payload else None) ≡ Some requests
+file-text true payload requests e read = read
+file-text false payload requests e read = absurd (cc)
+
+file-none : (b : Bool) (payload : List ℕ) → (b ≡ true → site_requests payload ≡ None) → (if b then site_requests payload else None) ≡ None
+file-none true payload none = none refl
+file-none false payload none = refl
+
+pub loads : (payload : List ℕ) (requests : List Request) (s : State) → IsUtf8 payload → site_requests payload ≡ Some requests → load_step payload s ≡ load_result requests s (all_set requests s)
+loads payload requests s utf8 read = ap (λ (o : Option (List Request)). load_of o s) (file-text (is_utf8 payload) payload requests (is_utf8-from_IsUtf8 payload utf8) read)
+
+pub loads_none : (payload : List ℕ) (s : State) → (IsUtf8 payload → site_requests payload ≡ None) → load_step payload s ≡ (BadRequest 1, s)
+loads_none payload s none = ap (λ (o : Option (List Request)). load_of o s) (file-none (is_utf8 payload) payload (λ e. none (IsUtf8-from_is_utf8 payload e)))

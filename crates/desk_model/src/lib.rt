@@ -11,6 +11,7 @@ mod piece;
 mod plain;
 mod refusal;
 mod restore;
+mod setting;
 mod site;
 mod stored;
 mod under;

@@ -2,14 +2,17 @@ ghost use Rattle.std.specs.Prelude.{◌≡◌, ◌≤◌, length, codes, IfOk, O
 ghost use Rattle.schedule_windows.specs.Zones.{PosixRule};
 ghost use Rattle.site_types.specs.Limits.{last_moment, payload_limit};
 ghost use Rattle.desk_model.specs.State.{initial};
+ghost use Rattle.desk_model.specs.Step.{step};
 
 use crate::Site;
+use crate::asked::PlainAsked;
 use crate::image::PlainImage;
 use crate::name::built_in;
+use crate::restore::restored;
 use crate::stored::PlainStored;
 use policy_book::Book;
 use schedule_windows::Zone;
-use site_types::NoMemory;
+use site_types::{Answer, NoMemory, Request};
 use std::alloc::Global;
 use std::marker::Model;
 
@@ -47,6 +50,39 @@ impl PlainDesk {
             images: Vec::new(alloc),
             stored: Vec::from_array(alloc, [disk])?,
         })
+    }
+
+    /// Carries out a request that is given this payload, at a moment in seconds since 1970-01-01T00:00:00Z. Without memory
+    /// nothing is done.
+    pub fn step(
+        &mut self,
+        alloc: Global,
+        request: &Request,
+        payload: &[u8],
+        moment: u64,
+    ) -> Result<Answer, NoMemory>
+        requires moment { moment ≤ last_moment }
+        requires payload { length payload.now ≤ payload_limit }
+        ensures computed { IfOk result (λ a. (a, self.new) ≡ step self.old request.now payload.now moment) }
+        ensures unchanged { OnErr result (self.new ≡ self.old) }
+    {
+        match request {
+            Request::Load => self.load(alloc, payload),
+            Request::Backup {
+                client,
+                policy,
+                schedule,
+                start,
+            } => {
+                let policy = policy.as_ref();
+                let schedule = schedule.as_ref();
+                let size = payload.len() as u64;
+                let asked = PlainAsked::new(alloc, client, policy, schedule, *start, size)?;
+                self.backup(alloc, &asked, payload, moment)
+            }
+            Request::Restore { id, copy } => restored(alloc, &self.images, id, *copy),
+            _ => self.change(alloc, request),
+        }
     }
 }
 
