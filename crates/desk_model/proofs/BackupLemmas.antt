@@ -4,13 +4,17 @@ use Rattle.std.specs.Prelude.{if◌then◌else◌, nat_le, nat_lt, is_none, IsSo
 use Rattle.std.proofs.lemmas.Bool.Decides.{nat_tests}
 use Rattle.site_types.specs.declared.answer.Answer.{Answer}
 use Rattle.site_types.specs.Limits.{last_moment, payload_limit}
+use Rattle.site_types.specs.declared.request.Request.{Request}
+use Rattle.site_types.specs.declared.request.Request.TheVariants.{Backup}
 use Rattle.site_types.specs.declared.schedule.Schedule.{Schedule}
+use Rattle.site_types.specs.declared.schedule.Start.{Start}
 use Rattle.site_types.specs.declared.unit.Unit.{Unit as StorageUnit}
 use Rattle.policy_book.specs.Book.{Policy, adhoc}
 use Rattle.image_catalogue.specs.Images.{is_before, bytes_on, used}
 use Rattle.desk_model.specs.State.{State, Image, with_image, entries}
 use Rattle.desk_model.specs.Refusals.{first_refusal}
-use Rattle.desk_model.specs.Backups.{Asked, image_limit, policy_asked, schedule_asked, schedule_chosen, backup_unit, unit_at, new_time, client_refusals, room_refusals, backup_refusals}
+use Rattle.desk_model.specs.Backups.{Asked, image_limit, policy_asked, schedule_asked, schedule_chosen, backup_unit, unit_at, new_time, client_refusals, room_refusals, backup_refusals, asked_of, backup_step}
+use Rattle.desk_model.specs.Step.{step}
 use Rattle.desk_model.specs.Plain.{IsSmall, IsAllowed}
 use Rattle.desk_model.proofs.ListLemmas.{first_refusal_here, first_refusal_later}
 
@@ -97,3 +101,11 @@ is_small_with new images small few short = record {
   few = omega (arith, length-with_image new images);
   held = λ unit. omega (arith, length-with_image new images, used-with_image unit new images, small.held unit, short unit);
 }
+
+-- a request for a backup
+pub steps_backup : (request : Request) (client : List ℕ) (policy given_policy schedule given_schedule : Option (List ℕ)) (start : Option Start) (asked : Asked) (payload : List ℕ) (moment : ℕ) (s : State) → request ≡ Backup client policy schedule start → given_policy ≡ policy → given_schedule ≡ schedule → asked ≡ asked_of client given_policy given_schedule start (length payload)
+    → backup_step asked payload moment s ≡ step s request payload moment
+steps_backup request client policy given_policy schedule given_schedule start asked payload moment s is policy_is schedule_is asked_is =
+    ap (λ (a : Asked). backup_step a payload moment s) asked_is
+    ∙ (λ i. backup_step (asked_of client (policy_is i) (schedule_is i) start (length payload)) payload moment s)
+    ∙ ap (λ (r : Request). step s r payload moment) (sym is)
