@@ -1,2 +1,5 @@
 pub mod PieceLemmas
 pub mod ListLemmas
+pub mod SettingLemmas
+pub mod StateLemmas
+pub mod BackupLemmas

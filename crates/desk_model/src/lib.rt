@@ -2,6 +2,19 @@
 //! that.
 #![tactic(auto)]
 
+mod asked;
+mod backup;
+mod draft;
+mod image;
+mod name;
+mod piece;
+mod plain;
+mod refusal;
+mod restore;
+mod setting;
 mod site;
+mod stored;
+mod under;
 
+pub use plain::PlainDesk;
 pub use site::Site;

@@ -1,0 +1,14 @@
+use Rattle.std.proofs.Common.{◌≡◌, true, false, ap}
+use Rattle.std.specs.Prelude.{is_none, None, codes}
+use Rattle.std.proofs.lemmas.Bool.{false≢true}
+use Rattle.std.proofs.lemmas.Option.{MatchOption-at_none}
+use Rattle.jiff_tz.specs.PosixReader.{read_whole, read_tz, read_abbreviation, read_unquoted, read_offset, read_up_to_two, read_digit, read_sign, read_minutes}
+use Rattle.desk_model.proofs.plain.first_zone.Goals as goal
+
+-- jiff reads the rule
+is_read : read_whole (codes "UTC0") ≡ None → false ≡ true
+unfolding read_whole read_tz read_abbreviation read_unquoted read_offset read_up_to_two read_digit read_sign read_minutes
+is_read none = ap is_none none
+
+pub unreachable-requires : goal.unreachable-requires
+unreachable-requires c = false≢true (is_read (MatchOption-at_none _ _ c.in-None.is c.in_ok-zone.ensures))
