@@ -15,4 +15,6 @@ pub use session::run;
 #[cfg(test)]
 mod session_tests;
 #[cfg(test)]
+mod site_tests;
+#[cfg(test)]
 mod tests;

@@ -1,3 +1,6 @@
+ghost use Rattle.std.specs.Prelude.{◌≤◌};
+ghost use Rattle.site_types.specs.Limits.{last_moment};
+
 use crate::frame::made_text;
 use crate::run;
 use crate::words::read_spoken;
@@ -6,7 +9,7 @@ use site_types::{NoMemory, Request, Text};
 use std::alloc::{AllocError, Global};
 use vault_disk::{Failed, MemoryClock, MemoryMachine, MemorySource, Source};
 
-fn words_of(alloc: Global, line: &str) -> Result<Vec<Text>, NoMemory> {
+pub fn words_of(alloc: Global, line: &str) -> Result<Vec<Text>, NoMemory> {
     let mut words = Vec::new(alloc);
     for word in line.split(' ') {
         words.push(Text::new(alloc, word.as_bytes())?)?;
@@ -183,7 +186,9 @@ fn step_of(
     plain: &mut PlainDesk,
     request: &Request,
     moment: u64,
-) -> Result<Wanted, NoMemory> {
+) -> Result<Wanted, NoMemory>
+    requires { moment ≤ last_moment }
+{
     let answer = plain.step(alloc, request, b"hello", moment)?;
     Ok(Wanted {
         status: answer.number(),
@@ -214,8 +219,30 @@ fn the_desk_answers_as_the_plain_program(rt: HostRuntime) -> Result<(), NoMemory
         "@250000000000 bpbackup client=a",
         "@0 bpbackup client=db",
         "@2000 bpbackup client=web",
+        "client add name=web",
+        "client add name=mail",
+        "unit add name=vault1 capacity=1000 high=50 low=40",
+        "unit change name=vault2 slots=7",
+        "bppolicynew add policy=office type=raw lifecycle=basic",
+        "bppolicynew client-add policy=office client=mail",
+        "bppolicynew client-add policy=office client=mail",
+        "bpplsched add policy=office schedule=weekly kind=full frequency=604800 windows=thu/22:00:00/14400",
+        "bpplsched change policy=office schedule=weekly kind=cumul calendar=wLfri+x2027-12-31 windows=always",
+        "bpzone set rule=CET-1CEST,M3.5.0,M10.5.0/3",
+        "@79200 bpbackup client=mail policy=office start=scheduled",
+        "@75600 bpbackup client=mail policy=office start=scheduled",
+        "@75600 bpbackup client=web policy=office",
+        "bpbackup client=mail policy=office schedule=daily",
+        "client remove name=mail",
+        "bppolicynew remove policy=office",
+        "bppolicynew change policy=adhoc active=no",
+        "bpbackup client=new",
+        "bppolicynew select policy=office path=/home%20one",
+        "bppolicynew unselect policy=office path=/home",
+        "bpplsched remove policy=office schedule=weekly",
+        "bpbackup client=mail policy=office",
     ];
-    let mut plain = PlainDesk::new(rt.alloc());
+    let mut plain = PlainDesk::new(rt.alloc())?;
     let mut machine = MemoryMachine::new(rt.alloc(), &[])?;
     let mut sent = Vec::new(rt.alloc());
     for line in lines {
