@@ -1,14 +1,14 @@
 // What refuses a backup.
-ghost use Rattle.std.specs.Prelude.{◌≡◌, ◌≤◌, ◌+◌, ◌*◌, None, max, not, is_none, nat_le, nat_lt, codes, unwrap_or, IfOk};
+ghost use Rattle.std.specs.Prelude.{◌≡◌, ◌≤◌, ◌+◌, ◌*◌, ◌&&◌, None, max, not, is_none, nat_le, nat_lt, length, codes, unwrap_or, IfOk};
 ghost use Rattle.std.specs.Option.{option_copied};
 ghost use Rattle.site_types.specs.Limits.{last_moment, payload_limit};
 ghost use Rattle.policy_book.specs.Lists.{has, itself, named};
-ghost use Rattle.policy_book.specs.Book.{adhoc, manual};
+ghost use Rattle.policy_book.specs.Book.{adhoc, client_limit, manual};
 ghost use Rattle.policy_book.specs.Changes.{pair_text};
 ghost use Rattle.image_catalogue.specs.Images.{used};
 ghost use Rattle.desk_model.specs.State.{entries};
 ghost use Rattle.desk_model.specs.Refusals.{first_refusal};
-ghost use Rattle.desk_model.specs.Backups.{backup_refusals, backup_unit, client_refusals, image_limit, is_waiting, last_time, new_time, policy_asked, room_refusals, schedule_chosen, unit_at};
+ghost use Rattle.desk_model.specs.Backups.{backup_refusals, backup_unit, client_refusals, image_limit, is_known, is_waiting, last_time, new_time, policy_asked, room_refusals, schedule_chosen, takes_all, unit_at};
 ghost use Rattle.desk_model.specs.Plain.{IsAllowed};
 
 use crate::asked::PlainAsked;
@@ -72,24 +72,46 @@ impl PlainDesk {
     ) -> Result<Vec<(bool, Answer)>, NoMemory>
         ensures { IfOk result (λ v. v.items ≡ client_refusals asked.now (option_copied policy.entry) self.now) }
     {
-        let images = self.images.len() as u64;
-        let clients = self.site.book.clients().len() as u64;
-        let all = takes_all(&asked.policy);
-        let known = self.site.book.client(&asked.client).is_some();
-        let listed = lists(policy, &asked.client);
-        let many_images = too_many(alloc, b"images", images, IMAGE_LIMIT)?;
-        let no_policy = unknown(alloc, asked.policy.bytes())?;
-        let no_client = unknown(alloc, asked.client.bytes())?;
-        let many_clients = too_many(alloc, b"clients", clients, CLIENT_LIMIT)?;
-        let no_pair = pair_text(alloc, asked.policy.bytes(), asked.client.bytes())?;
-        let refusals = [
-            (IMAGE_LIMIT <= images, many_images),
-            (policy.is_none(), no_policy),
-            (!all && !known, no_client),
-            (all && !known && CLIENT_LIMIT <= clients, many_clients),
-            (!all && !listed, Answer::Unknown { name: no_pair }),
-        ];
-        Ok(Vec::from_array(alloc, refusals)?)
+        let mut refusals = Vec::new(alloc);
+        refusals.push(self.many_images(alloc)?)?;
+        refusals.push(no_policy(alloc, asked, policy)?)?;
+        refusals.push(self.no_client(alloc, asked)?)?;
+        refusals.push(self.many_clients(alloc, asked)?)?;
+        refusals.push(not_listed(alloc, asked, policy)?)?;
+        Ok(refusals)
+    }
+
+    fn many_images(&self, alloc: Global) -> Result<(bool, Answer), NoMemory>
+        ensures { IfOk result (λ r. let count = length self.now.images in r ≡ (nat_le image_limit count, Answer.TooMany (codes "images") count image_limit)) }
+    {
+        let count = self.images.len() as u64;
+        let answer = too_many(alloc, b"images", count, IMAGE_LIMIT)?;
+        Ok((IMAGE_LIMIT <= count, answer))
+    }
+
+    fn is_known(&self, client: &Name) -> bool
+        ensures { result ≡ is_known client.now self.now.site.book }
+    {
+        self.site.book.client(client).is_some()
+    }
+
+    fn no_client(&self, alloc: Global, asked: &PlainAsked) -> Result<(bool, Answer), NoMemory>
+        ensures { IfOk result (λ r. r ≡ (not (takes_all asked.now.policy) && not (is_known asked.now.client self.now.site.book), Answer.Unknown asked.now.client)) }
+    {
+        let answer = unknown(alloc, asked.client.bytes())?;
+        let refuses = !takes_all(&asked.policy) && !self.is_known(&asked.client);
+        Ok((refuses, answer))
+    }
+
+    fn many_clients(&self, alloc: Global, asked: &PlainAsked) -> Result<(bool, Answer), NoMemory>
+        ensures { IfOk result (λ r. let count = length self.now.site.book.clients in r ≡ (takes_all asked.now.policy && not (is_known asked.now.client self.now.site.book) && nat_le client_limit count, Answer.TooMany (codes "clients") count client_limit)) }
+    {
+        let count = self.site.book.clients().len() as u64;
+        let answer = too_many(alloc, b"clients", count, CLIENT_LIMIT)?;
+        let refuses = takes_all(&asked.policy)
+            && !self.is_known(&asked.client)
+            && CLIENT_LIMIT <= count;
+        Ok((refuses, answer))
     }
 
     // And those of the policy, its schedule and its unit.
@@ -106,15 +128,14 @@ impl PlainDesk {
         requires size { asked.now.size ≤ payload_limit }
         ensures { IfOk result (λ v. v.items ≡ room_refusals asked.now policy.now (option_copied schedule.entry) unit.now (used unit.now.name (entries self.now.images)) moment self.now) }
     {
-        let refusals = [
-            no_schedule(alloc, asked, schedule)?,
-            inactive(alloc, asked, policy)?,
-            self.closed(alloc, asked, schedule, moment)?,
-            self.above_high(alloc, unit)?,
-            self.late(alloc, asked, moment)?,
-            self.full(alloc, asked, unit)?,
-        ];
-        Ok(Vec::from_array(alloc, refusals)?)
+        let mut refusals = Vec::new(alloc);
+        refusals.push(no_schedule(alloc, asked, schedule)?)?;
+        refusals.push(inactive(alloc, asked, policy)?)?;
+        refusals.push(self.closed(alloc, asked, schedule, moment)?)?;
+        refusals.push(self.above_high(alloc, unit)?)?;
+        refusals.push(self.late(alloc, asked, moment)?)?;
+        refusals.push(self.full(alloc, asked, unit)?)?;
+        Ok(refusals)
     }
 
     // No window of the schedule is open to the backup. Without a schedule it is that of a new vault, which has no windows.
@@ -228,6 +249,28 @@ fn lists(policy: Option<&Policy>, client: &Name) -> bool
         Some(policy) => listed(client, policy.clients()).is_some(),
         None => false,
     }
+}
+
+fn no_policy(
+    alloc: Global,
+    asked: &PlainAsked,
+    policy: Option<&Policy>,
+) -> Result<(bool, Answer), NoMemory>
+    ensures { IfOk result (λ r. r ≡ (is_none (option_copied policy.entry), Answer.Unknown asked.now.policy)) }
+{
+    Ok((policy.is_none(), unknown(alloc, asked.policy.bytes())?))
+}
+
+fn not_listed(
+    alloc: Global,
+    asked: &PlainAsked,
+    policy: Option<&Policy>,
+) -> Result<(bool, Answer), NoMemory>
+    ensures { IfOk result (λ r. r ≡ (not (takes_all asked.now.policy) && not (has itself asked.now.client (unwrap_or (option_copied policy.entry) adhoc).clients), Answer.Unknown (pair_text asked.now.policy asked.now.client))) }
+{
+    let name = pair_text(alloc, asked.policy.bytes(), asked.client.bytes())?;
+    let refuses = !takes_all(&asked.policy) && !lists(policy, &asked.client);
+    Ok((refuses, Answer::Unknown { name }))
 }
 
 fn no_schedule(
