@@ -1,5 +1,5 @@
 // Backups of the plain program.
-ghost use Rattle.std.specs.Prelude.{◌≡◌, ◌≤◌, ◌<◌, ◌∷◌, [], ◌++◌, List, length, codes, unwrap_or, IfOk, OnOk, OnErr};
+ghost use Rattle.std.specs.Prelude.{◌≡◌, ◌≤◌, ◌<◌, ◌∷◌, [], ◌++◌, ℕ, List, length, codes, unwrap_or, IfOk, OnOk, OnErr};
 ghost use Rattle.site_types.specs.Ids.{id_text};
 ghost use Rattle.site_types.specs.Limits.{last_moment, payload_limit};
 ghost use Rattle.site_types.specs.declared.image.Expiry.TheVariants.{Rule};
