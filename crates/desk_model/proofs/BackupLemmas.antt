@@ -1,5 +1,5 @@
 -- Backups that nothing refuses, and images that are sealed.
-use Rattle.std.proofs.Common.{◌≡◌, ℕ, zero, suc, ◌+◌, ◌*◌, ◌<◌, ◌≤◌, Bool, true, false, not, List, [], ◌∷◌, ◌++◌, length, refl, sym, ◌∙◌, ap, arith}
+use Rattle.std.proofs.Common.{◌≡◌, ℕ, ◌+◌, ◌<◌, ◌≤◌, Bool, true, false, List, [], ◌∷◌, length, refl, sym, ◌∙◌, ap, arith}
 use Rattle.std.specs.Prelude.{if◌then◌else◌, nat_le, nat_lt, is_none, IsSome, unwrap_or, Option, Some, None}
 use Rattle.std.proofs.lemmas.Bool.Decides.{nat_tests}
 use Rattle.site_types.specs.declared.answer.Answer.{Answer}
@@ -74,9 +74,9 @@ refused_later asked moment s found policy schedule unit rs more answer found_is 
     let now : first_refusal (client_refusals asked (policy_asked asked s) s) ≡ None = ap (λ (p : Option Policy). first_refusal (client_refusals asked p s)) (sym found_is) ∙ ap first_refusal (sym rs_is) ∙ e in
     let there : Some policy ≡ policy_asked asked s = sym policy_is ∙ found_is in
     let rooms : more ≡ rest_of asked moment s =
-        more_is
-        ∙ (λ i. room_refusals asked policy (schedule_is i) (unit_is i) (used (unit_is i).name (entries s.images)) moment s)
-        ∙ ap (λ (p : Option Policy). under asked moment s (unwrap_or p adhoc)) there in
+    more_is
+    ∙ (λ i. room_refusals asked policy (schedule_is i) (unit_is i) (used (unit_is i).name (entries s.images)) moment s)
+    ∙ ap (λ (p : Option Policy). under asked moment s (unwrap_or p adhoc)) there in
     answer_is ∙ ap first_refusal rooms ∙ sym (first_refusal_later (client_refusals asked (policy_asked asked s) s) (rest_of asked moment s) now)
 
 length-at : (b : Bool) (new i : Image) (images rest : List Image) → length rest ≡ length images + 1 → length (if b then new ∷ i ∷ images else i ∷ rest) ≡ length images + 2

@@ -1,27 +1,23 @@
 -- Requests that change the site, over plain states.
-use Rattle.std.proofs.Common.{◌≡◌, ℕ, ◌+◌, ◌<◌, Bool, true, false, List, [], ◌∷◌, length, get_or, drop, refl, sym, ◌∙◌, ap, add-one, drop-cons}
-use Rattle.std.specs.Prelude.{if◌then◌else◌, map, Option, Some, None, option_map, unwrap_or, find, Err}
-use Rattle.std.specs.Option.{option_map_or}
+use Rattle.std.proofs.Common.{◌≡◌, ℕ, Bool, true, false, List, [], ◌∷◌, refl, sym, ◌∙◌, ap}
+use Rattle.std.specs.Prelude.{if◌then◌else◌, map, Option, Some, None, option_map, find}
 use Rattle.std.specs.Str.{bytes_eq, is_utf8, IsUtf8}
 use Rattle.std.proofs.lemmas.Str.{IsUtf8-from_is_utf8, is_utf8-from_IsUtf8}
 use Rattle.site_types.specs.declared.answer.Answer.{Answer}
 use Rattle.site_types.specs.declared.answer.Answer.TheVariants.{BadRequest}
 use Rattle.site_types.specs.declared.image.ImageRecord.{ImageRecord}
 use Rattle.site_types.specs.declared.request.Request.{Request}
-use Rattle.site_types.specs.declared.request.Request.TheVariants.{UnitAdd, UnitChange, ClientAdd, ClientRemove, PolicyAdd, PolicyChange, PolicyRemove, PolicyClientAdd, PolicyClientRemove, PolicySelect, PolicyUnselect, ScheduleAdd, ScheduleChange, ScheduleRemove, ZoneSet, Load, Backup, Restore}
-use Rattle.schedule_windows.specs.Zones.{ZoneOf}
+use Rattle.site_types.specs.declared.request.Request.TheVariants.{ClientRemove, PolicyRemove}
 use Rattle.policy_book.specs.declared.fault.BookFault.{BookFault}
-use Rattle.policy_book.specs.Book.{Book}
 use Rattle.policy_book.specs.Changes as changes
-use Rattle.policy_book.specs.Requests.{refusals_of, book_after}
+use Rattle.policy_book.specs.Requests.{refusals_of}
 use Rattle.policy_book.specs.SiteFile.{site_requests}
-use Rattle.desk_model.specs.declared.draft.Draft.{Draft}
 use Rattle.desk_model.specs.declared.site.Site.{Site}
-use Rattle.desk_model.specs.State.{State, Image, Stored, entries}
+use Rattle.desk_model.specs.State.{State, Image, Stored}
 use Rattle.desk_model.specs.Refusals.{first_refusal}
-use Rattle.desk_model.specs.Settings.{refusal_answer, used_by, use_refusals, setting_refusals, site_after, stored_after, set_by, all_set, load_of, load_result, load_step}
-use Rattle.desk_model.specs.Plain.{plain_state, draft_state, book_refusal, zone_after, Sets}
-use Rattle.desk_model.proofs.ListLemmas.{find_entries, first_refusal_here, first_refusal_later}
+use Rattle.desk_model.specs.Settings.{refusal_answer, used_by, use_refusals, setting_refusals, all_set, load_of, load_result, load_step}
+use Rattle.desk_model.specs.Plain.{plain_state, book_refusal, Sets}
+use Rattle.desk_model.proofs.ListLemmas.{find_entries, first_refusal_here}
 
 pub uses_of_client : (request : Request) (name : List ℕ) (site : Site) (stored : List Stored) (images : List Image) (found : Option Image) (rs : List (Bool × Answer)) → request ≡ ClientRemove name → found ≡ find (λ (i : Image). bytes_eq i.entry.id.client name) images → rs ≡ used_by name (option_map (λ (i : Image). i.entry) found) None
     → rs ≡ use_refusals request (plain_state site images stored)

@@ -1,5 +1,5 @@
 -- bpbackup: what it is made under, its refusals, and the state with its image.
-use Rattle.std.specs.Prelude.{ℕ, ◌+◌, ◌*◌, Bool, true, false, ◌&&◌, not, is_none, nat_le, nat_lt, if◌then◌else◌, List, [], ◌∷◌, ◌++◌, length, map, codes, Option, Some, None, option_and_then, option_map, unwrap_or, find, fold, max}
+use Rattle.std.specs.Prelude.{ℕ, ◌+◌, ◌*◌, Bool, true, false, ◌&&◌, not, is_none, nat_le, nat_lt, if◌then◌else◌, List, [], ◌∷◌, ◌++◌, length, map, codes, Option, Some, None, unwrap_or, find, fold, max}
 use Rattle.std.specs.List.{list_any}
 use Rattle.std.specs.Option.{option_map_or}
 use Rattle.std.specs.Str.{bytes_eq}
@@ -29,7 +29,6 @@ use Rattle.policy_book.specs.Lists.{named, has, itself}
 use Rattle.policy_book.specs.Book.{Policy, Book, unit_name, client_name, policy_name, schedule_name, client_limit, disk0, adhoc, manual}
 use Rattle.policy_book.specs.Changes.{pair_text, is_full, last_of, client_sealed}
 use Rattle.image_catalogue.specs.Images.{used}
-use Rattle.desk_model.specs.declared.site.Site.{Site}
 use Rattle.desk_model.specs.Pieces.{pieces}
 use Rattle.desk_model.specs.State.{State, Image, Job, backup, duplication, restore, entries, with_image, with_stored}
 use Rattle.desk_model.specs.Refusals.{first_refusal, unless_refused}

@@ -16,7 +16,7 @@ use Rattle.policy_book.specs.Requests.{is_of_book, refusals_of, book_after}
 use Rattle.policy_book.specs.SiteFile.{site_requests}
 use Rattle.image_catalogue.specs.Images.{first_of_client, first_under}
 use Rattle.desk_model.specs.declared.site.Site.{Site}
-use Rattle.desk_model.specs.State.{State, Stored, Job, backup, duplication, restore, entries}
+use Rattle.desk_model.specs.State.{State, Stored, Job, backup, entries}
 use Rattle.desk_model.specs.Refusals.{first_refusal, unless_refused}
 
 -- it changes the book or the zone

@@ -138,11 +138,7 @@ fn use_refusals(
 }
 
 // The zone of a rule, or else of an offset. A request that was read has only such as there are zones of.
-fn zone_given(
-    alloc: Global,
-    rule: Option<&Text>,
-    offset: Option<i32>,
-) -> Result<Zone, NoMemory>
+fn zone_given(alloc: Global, rule: Option<&Text>, offset: Option<i32>) -> Result<Zone, NoMemory>
     ensures { IfOk result (λ zone. zone ≡ zone_given (option_copied rule.entry) offset) }
 {
     let zone = match (rule, offset) {

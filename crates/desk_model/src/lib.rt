@@ -4,6 +4,7 @@
 
 mod asked;
 mod backup;
+mod backup_refusals;
 mod draft;
 mod image;
 mod name;

@@ -94,3 +94,69 @@ fn first_zone(alloc: Global) -> Result<Zone, NoMemory>
         None => unreachable!(),
     }
 }
+
+#[cfg(test)]
+mod tests {
+    use super::*;
+    use site_types::Name;
+    use std::test::Fail;
+
+    // The text of the answer to a backup.
+    fn text(
+        alloc: Global,
+        desk: &mut PlainDesk,
+        client: &[u8],
+        moment: u64,
+    ) -> Result<Vec<u8>, NoMemory>
+        requires { moment ≤ last_moment }
+    {
+        let mut text = Vec::new(alloc);
+        if let Some(client) = Name::new(alloc, client)? {
+            let request = Request::Backup {
+                client,
+                policy: None,
+                schedule: None,
+                start: None,
+            };
+            let answer = desk.step(alloc, &request, b"bytes", moment)?;
+            answer.write_text(alloc, &mut text)?;
+        }
+        Ok(text)
+    }
+
+    fn ids(alloc: Global, desk: &PlainDesk) -> Result<Vec<u8>, NoMemory> {
+        let mut ids = Vec::new(alloc);
+        for image in &desk.images {
+            ids.extend_from_slice(image.id().text(alloc)?.bytes())?;
+            ids.push(b'\n')?;
+        }
+        Ok(ids)
+    }
+
+    #[test]
+    fn backs_up_two_clients(rt: HostRuntime) -> Result<(), Fail> {
+        let alloc = rt.alloc();
+        let mut desk = PlainDesk::new(alloc)?;
+        assert_eq!(rt;
+            text(alloc, &mut desk, b"web", 100)?.as_slice(),
+            b"web_100\n".as_slice()
+        );
+        assert_eq!(rt;
+            text(alloc, &mut desk, b"web", 100)?.as_slice(),
+            b"web_101\n".as_slice()
+        );
+        assert_eq!(rt;
+            text(alloc, &mut desk, b"mail", 250_000_000_000)?.as_slice(),
+            b"mail_250000000000\n".as_slice()
+        );
+        assert_eq!(rt;
+            text(alloc, &mut desk, b"mail", 7)?.as_slice(),
+            b"too many time: 250000000000 of 250000000000\n".as_slice()
+        );
+        assert_eq!(rt;
+            ids(alloc, &desk)?.as_slice(),
+            b"mail_250000000000\nweb_100\nweb_101\n".as_slice()
+        );
+        Ok(())
+    }
+}

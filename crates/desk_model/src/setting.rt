@@ -48,11 +48,13 @@ impl PlainDesk {
     {
         let mut draft = self.draft(alloc)?;
         let body = count_text(alloc, requests.len())?;
-        if let Some(answer) = draft.set_all(alloc, requests, &self.images)? {
-            return Ok(answer);
+        match draft.set_all(alloc, requests, &self.images)? {
+            Some(answer) => Ok(answer),
+            None => {
+                self.put(draft);
+                Ok(Answer::Done { body })
+            }
         }
-        self.put(draft);
-        Ok(Answer::Done { body })
     }
 
     // A draft of the site as it is.

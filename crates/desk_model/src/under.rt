@@ -136,12 +136,7 @@ pub fn unit_under(alloc: Global, policy: &Policy, book: &Book) -> Result<Unit, N
     Ok(unit)
 }
 
-fn has_open(
-    alloc: Global,
-    zone: &Zone,
-    moment: u64,
-    windows: &Windows,
-) -> Result<bool, NoMemory>
+fn has_open(alloc: Global, zone: &Zone, moment: u64, windows: &Windows) -> Result<bool, NoMemory>
     requires { moment ≤ last_moment }
     ensures { IfOk result (λ any. any ≡ has_open zone.now moment windows.now) }
 {
