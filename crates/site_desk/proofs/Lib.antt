@@ -8,6 +8,7 @@ pub mod Opening
 pub mod Refusing
 pub mod ReplayLemmas
 pub mod Restoring
+pub mod Sealing
 pub mod SettingLines
 pub mod SiteChanges
 pub mod SizedRecords

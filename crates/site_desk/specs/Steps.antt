@@ -31,6 +31,13 @@ abbrev pub is_backup : Request → Bool
 is_backup (Backup client policy schedule start) = true
 is_backup request = false
 
+-- a record takes a state to the one that is known now, in which it stands behind these
+pub record IsTaken (records : List Found) (end : ℕ) (s : State) (row : Record) (known : Known) : Type 0 where
+  pub images : List Image
+  pub stored : List Stored
+  pub applies : apply s row ≡ Some (built known.site images stored)
+  pub remembers : end + 5 + length (spelled_entry row.entry) < 2 ^ 63 → Remembers (with_one records end row) known images
+
 -- a record is ready to be written behind these, which takes a state to the one that is known now
 pub record IsReady (records : List Found) (end : ℕ) (s : State) (request : Request) (payload : List ℕ) (moment : ℕ) (staged body : List ℕ) (known : Known) : Type 0 where
   pub row : Record

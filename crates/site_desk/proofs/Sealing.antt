@@ -1,0 +1,154 @@
+-- A backup at once.
+use Rattle.std.proofs.Common.{◌≡◌, ◌≢◌, ◌≤◌, ◌<◌, ◌+◌, ◌^◌, ℕ, zero, suc, max, Bool, true, false, List, [], ◌∷◌, ◌++◌, length, Some, None, refl, sym, ◌∙◌, ap, subst, arith}
+use Rattle.std.specs.Prelude.{Option, if◌then◌else◌, ◌&&◌, ◌||◌, not, is_none, is_some, nat_le, nat_lt, codes, unwrap_or, find, map, Contains}
+use Rattle.std.specs.Option.{option_map}
+use Rattle.std.specs.Str.{bytes_eq}
+use Rattle.std.proofs.lemmas.Bool.Decides.{nat_tests}
+use Rattle.std.proofs.lemmas.List.Elements.{Contains-append_left, Contains-push}
+use Rattle.site_types.specs.Ids.{id_text}
+use Rattle.site_types.specs.Limits.{last_moment}
+use Rattle.site_types.specs.declared.answer.Answer.{Answer}
+use Rattle.site_types.specs.declared.answer.Answer.TheVariants.{Done}
+use Rattle.site_types.specs.declared.id.BackupId.{BackupId}
+use Rattle.site_types.specs.declared.image.Base.{Base}
+use Rattle.site_types.specs.declared.image.Base.TheVariants as base
+use Rattle.site_types.specs.declared.request.Request.{Request}
+use Rattle.site_types.specs.declared.request.Request.TheVariants.{Backup}
+use Rattle.pool_journal.specs.declared.entry.Entry.TheVariants as entry
+use Rattle.pool_journal.specs.declared.entry.WholeImage.{WholeImage}
+use Rattle.pool_journal.specs.Entries.{Record, spelled_entry, IsStaged}
+use Rattle.pool_journal.specs.Records.{Found}
+use Rattle.slp_tree.specs.Lifecycles.{Lifecycle, version_in, version_named, latest_named}
+use Rattle.policy_book.specs.Lists.{named, has}
+use Rattle.policy_book.specs.Book.{Book, Policy, policy_name, client_limit, basic, adhoc}
+use Rattle.policy_book.specs.Changes.{has_lifecycle}
+use Rattle.desk_model.specs.declared.site.Site.{Site}
+use Rattle.desk_model.specs.State.{State, Image, Stored, has_image}
+use Rattle.desk_model.specs.Refusals.{first_refusal, unless_refused}
+use Rattle.desk_model.specs.Backups.{Asked, asked_of, image_limit, new_time, takes_all, is_known, latest_version, policy_asked, backup_refusals, backup_done, backup_step, sealed}
+use Rattle.desk_model.specs.Step.{step}
+use Rattle.desk_rules.specs.declared.decision.Change.{Change}
+use Rattle.desk_rules.specs.declared.decision.Change.TheVariants.{SealNow}
+use Rattle.desk_rules.specs.declared.decision.Decision.{Decision}
+use Rattle.desk_rules.specs.declared.decision.JobBody.{JobBody}
+use Rattle.desk_rules.specs.Decisions.{IsStateOf, IsDecision, unless, backup_body, backup_change}
+use Rattle.desk_rules.specs.Seen.{seen}
+use Rattle.desk_rules.proofs.SeenLemmas.{entries_seen}
+use Rattle.site_desk.specs.Stands.{apply, apply_entry, image_fits, whole_image, whole_unit}
+use Rattle.site_desk.specs.Known.{built, TimesBelow, IsWhole, Remembers}
+use Rattle.site_desk.specs.Replays.{Reaches, IsReached}
+use Rattle.site_desk.specs.Desk.{whole_of}
+use Rattle.site_desk.specs.Steps.{is_backup, IsTaken, IsReady, IsRefused, IsStepRefusal}
+use Rattle.site_desk.specs.declared.extents.Extent.{Extent}
+use Rattle.site_desk.specs.declared.known.Known.{Known}
+use Rattle.site_desk.proofs.Knowing.{remembers_more}
+use Rattle.site_desk.proofs.NamedLemmas.{text_is}
+use Rattle.site_desk.proofs.Refusing.{refused_as, ArePlain, first_plain, sized_seen}
+
+-- Nothing refuses it.
+
+abbrev ArePassed : List (Bool × Answer) → Type 0
+ArePassed [] = Unit {0}
+ArePassed (r ∷ rs) = (r.0 ≡ false) × ArePassed rs
+
+all_passed : (refusals : List (Bool × Answer)) → first_refusal refusals ≡ None → ArePassed refusals
+all_passed [] none = tt
+all_passed (r ∷ rs) none = at r.0 (all_passed rs) none
+  where
+    at : (b : Bool) → (first_refusal rs ≡ None → ArePassed rs) → (if b then Some r.1 else first_refusal rs) ≡ None → (b ≡ false) × ArePassed rs
+    at true later is = absurd (cc is)
+    at false later is = (refl, later is)
+
+-- The policy that is found is there, under its name.
+
+module _ {A : Type 0} (name_of : A → List ℕ) (name : List ℕ) where
+  found_named : (xs : List A) (x : A) → named name_of name xs ≡ Some x → (name_of x ≡ name) × Contains xs x
+  found_named [] x is = absurd (cc is)
+  found_named (y ∷ ys) x is = at (bytes_eq (name_of y) name) refl (found_named ys x) is
+    where
+      at : (b : Bool) → bytes_eq (name_of y) name ≡ b → (named name_of name ys ≡ Some x → (name_of x ≡ name) × Contains ys x) → (if b then Some y else named name_of name ys) ≡ Some x → (name_of x ≡ name) × Contains (y ∷ ys) x
+      at true same later here =
+          let y_is : y ≡ x = cc here in
+          (ap name_of (sym y_is) ∙ text_is (name_of y) name same, (zero, omega arith, y_is))
+      at false differs later there =
+          let found = later there in
+          (found.0, (suc found.1.0, omega (arith, found.1.1), found.1.2))
+
+there_is : {A : Type 0} (o : Option A) → is_none o ≡ false → (x : A) × (o ≡ Some x)
+there_is None none = absurd (cc none)
+there_is (Some x) some = (x, refl)
+
+-- The latest version of a lifecycle is there, where there is one lifecycle.
+version_there : (name : List ℕ) (lifecycles : List Lifecycle) → lifecycles ≡ basic ∷ [] → is_some (latest_named name lifecycles) ≡ true → is_some (version_named name (unwrap_or (latest_named name lifecycles) 0) lifecycles) ≡ true
+version_there name lifecycles is there = subst (λ (ls : List Lifecycle). is_some (latest_named name ls) ≡ true → is_some (version_named name (unwrap_or (latest_named name ls) 0) ls) ≡ true) (sym is) (at (bytes_eq basic.name name)) there
+  where
+    at : (b : Bool) → is_some (option_map (λ (l : Lifecycle). length l.versions) (if b then Some basic else None)) ≡ true → is_some (version_in (unwrap_or (option_map (λ (l : Lifecycle). length l.versions) (if b then Some basic else None)) 0) (if b then Some basic else None)) ≡ true
+    at true some = refl
+    at false some = absurd (cc some)
+
+client_there : (known takes : Bool) (count : ℕ) → (not takes && not known) ≡ false → (takes && not known && nat_le client_limit count) ≡ false → (known || (takes && nat_lt count client_limit)) ≡ true
+client_there true takes count p q = refl
+client_there false true count p q = grind (arith, nat_tests, q)
+client_there false false count p q = absurd (cc p)
+
+-- A backup that nothing refuses fits, and makes the state after it.
+module _ (site : Site) (images : List Image) (stored : List Stored) (asked : Asked) (moment : ℕ) where
+  abbrev s : State
+  s = built site images stored
+
+  abbrev w : WholeImage
+  w = whole_of (backup_body asked moment s) moment
+
+  lacking : TimesBelow site.book images → not (has_image w.id images) ≡ true
+  lacking below = at (has_image w.id images) refl
+    where
+      at : (b : Bool) → has_image w.id images ≡ b → not b ≡ true
+      at false is = refl
+      at true is = let low = below w.id is in absurd (omega (arith, low))
+
+  fits : IsWhole site.book → TimesBelow site.book images → moment ≤ last_moment → first_refusal (backup_refusals asked moment s) ≡ None → image_fits s w ≡ true
+  fits whole below early none =
+      let passed = all_passed (backup_refusals asked moment s) none in
+      let policy = there_is (policy_asked asked s) passed.1.0 in
+      let found = found_named policy_name asked.policy site.book.policies policy.0 policy.1 in
+      let policy_is : unwrap_or (policy_asked asked s) adhoc ≡ policy.0 = ap (λ (o : Option Policy). unwrap_or o adhoc) policy.1 in
+      let room : nat_lt (length images) image_limit ≡ true = let p : nat_le image_limit (length images) ≡ false = passed.0 in grind (arith, nat_tests, p) in
+      let policy_there : has policy_name w.policy site.book.policies ≡ true = ap (λ (p : Policy). has policy_name p.name site.book.policies) policy_is ∙ ap (λ (n : List ℕ). has policy_name n site.book.policies) found.0 ∙ ap is_some policy.1 in
+      let version : is_some (version_named w.lifecycle w.version site.book.lifecycles) ≡ true = ap (λ (p : Policy). is_some (version_named p.lifecycle (latest_version p.lifecycle site.book) site.book.lifecycles)) policy_is ∙ version_there policy.0.lifecycle site.book.lifecycles whole.lifecycles (whole.policies policy.0 found.1) in
+      let client : (is_known asked.client site.book || (takes_all w.policy && nat_lt (length site.book.clients) client_limit)) ≡ true =
+      ap (λ (p : Policy). is_known asked.client site.book || (takes_all p.name && nat_lt (length site.book.clients) client_limit)) policy_is ∙ ap (λ (n : List ℕ). is_known asked.client site.book || (takes_all n && nat_lt (length site.book.clients) client_limit)) found.0
+      ∙ client_there (is_known asked.client site.book) (takes_all asked.policy) (length site.book.clients) passed.1.1.0 passed.1.1.1.0 in
+      let above : nat_le 1 w.id.time ≡ true = grind (arith, nat_tests) in
+      let within : nat_le w.id.time last_moment ≡ true = let p : nat_lt last_moment w.id.time ≡ false = passed.1.1.1.1.1.1.1.1.1.0 in grind (arith, nat_tests, p) in
+      let completed : nat_le moment last_moment ≡ true = grind (arith, nat_tests, early) in
+      (λ i. room i && lacking below i && policy_there i && version i && client i && above i && within i && true && completed i)
+
+  pub applies : (payload : List ℕ) → asked.size ≡ length payload → IsWhole site.book → TimesBelow site.book images → moment ≤ last_moment → first_refusal (backup_refusals asked moment s) ≡ None → apply s (record { entry = entry.WholeImage w; bytes = payload }) ≡ Some (backup_done asked payload moment s).1
+  applies payload size whole below early none =
+      (λ i. if fits whole below early none i then Some (sealed (whole_image s w payload) (whole_unit s w) s) else None)
+      ∙ ap (λ (n : ℕ). Some (sealed (whole_image s (record w { length = n }) payload) (whole_unit s w) s)) size
+
+-- what is known once an image was taken in whose bytes stand there
+abbrev pub Takes : WholeImage → Extent → Known → Known → Bool → Type 0
+Takes image extent old new done =
+    (records : List Found) (images : List Image) (stored : List Stored) (f : Found) → Contains records f → f.is.entry ≡ entry.WholeImage image → image.length ≡ length f.is.bytes → extent.from ≡ f.from → extent.length ≡ length f.is.bytes → Remembers records old images
+    → IsReached records (apply (built old.site images stored) f.is) new done
+
+module _ (records : List Found) (end : ℕ) (images : List Image) (stored : List Stored) (image : WholeImage) (payload : List ℕ) (extent : Extent) (old new : Known) (done : Bool) where
+  abbrev row : Record
+  row = record { entry = entry.WholeImage image; bytes = payload }
+
+  abbrev here : Found
+  here = record { at = end; from = extent.from; is = row }
+
+  pub taken_in : image.length ≡ length payload → (end + 5 + length (spelled_entry row.entry) < 2 ^ 63 → extent.from ≡ end + 5 + length (spelled_entry row.entry)) → extent.length ≡ length payload → Remembers records old images → Takes image extent old new done → done ≡ true → IsTaken records end (built old.site images stored) row new
+  taken_in length_is from_is size remembers takes is =
+      let among = Contains-push records here in
+      let before : Remembers (records ++ here ∷ []) old images = remembers_more records (records ++ here ∷ []) old images (λ f there. Contains-append_left records (here ∷ []) f there) remembers in
+      let reached : Reaches (records ++ here ∷ []) (apply (built old.site images stored) row) new = subst (IsReached (records ++ here ∷ []) (apply (built old.site images stored) row) new) is (takes (records ++ here ∷ []) images stored here among refl length_is refl size before) in
+      record {
+        images = reached.images;
+        stored = reached.stored;
+        applies = reached.made;
+        remembers = λ short. subst (λ (n : ℕ). Remembers (records ++ record { at = end; from = n; is = row } ∷ []) new reached.images) (from_is short) reached.remembers;
+      }
