@@ -152,3 +152,104 @@ module _ (records : List Found) (end : ℕ) (images : List Image) (stored : List
         applies = reached.made;
         remembers = λ short. subst (λ (n : ℕ). Remembers (records ++ record { at = end; from = n; is = row } ∷ []) new reached.images) (from_is short) reached.remembers;
       }
+
+-- What a decision on a backup says of a state.
+record Said (s : State) (request : Request) (payload : List ℕ) (moment : ℕ) (d : Decision) : Type 0 where
+  asked : Asked
+  size : asked.size ≡ length payload
+  steps : step s request payload moment ≡ backup_step asked payload moment s
+  answer : d.answer ≡ (backup_step asked payload moment s).0
+  change : d.change ≡ backup_change asked moment s
+
+said : (s : State) (request : Request) (payload : List ℕ) (moment : ℕ) (d : Decision) → is_backup request ≡ true → IsDecision s request payload moment d → Said s request payload moment d
+said s (Backup client policy schedule start) payload moment d is decided = record { asked = asked_of client policy schedule start (length payload); size = refl; steps = refl; answer = decided.0; change = decided.1 }
+said s request payload moment d is decided = absurd (cc is)
+
+backup_plain : (asked : Asked) (moment : ℕ) (s : State) → ArePlain (backup_refusals asked moment s)
+backup_plain asked moment s = ((tt, tt), ((tt, tt), ((tt, tt), ((tt, tt), ((tt, tt), ((tt, tt), ((tt, tt), ((tt, tt), ((tt, tt), ((tt, tt), ((tt, tt), tt)))))))))))
+
+module _ (s : State) (request : Request) (payload : List ℕ) (moment : ℕ) (d : Decision) (says : Said s request payload moment d) where
+  abbrev first : Option Answer
+  first = first_refusal (backup_refusals says.asked moment s)
+
+  -- no image is sealed: it is refused
+  refused_so : ((body : JobBody) → d.change ≢ SealNow body) → IsStepRefusal d.answer × IsRefused s request payload moment d.answer
+  refused_so other = at first refl
+    where
+      at : (o : Option Answer) → first ≡ o → IsStepRefusal d.answer × IsRefused s request payload moment d.answer
+      at None is = absurd (other (backup_body says.asked moment s) (says.change ∙ ap (λ (o : Option Answer). unless o (SealNow (backup_body says.asked moment s))) is))
+      at (Some a) is =
+          let done : Answer × State = backup_done says.asked payload moment s in
+          let answer_is : d.answer ≡ a = says.answer ∙ ap (λ (o : Option Answer). (unless_refused s o done).0) is in
+          let plain : IsStepRefusal d.answer = subst IsStepRefusal (sym answer_is) (first_plain (backup_refusals says.asked moment s) a (backup_plain says.asked moment s) is) in
+          (plain, refused_as s request payload moment d.answer plain (says.steps ∙ ap (λ (o : Option Answer). unless_refused s o done) is ∙ ap (λ (x : Answer). (x, s)) (sym answer_is)))
+
+  -- an image is sealed
+  module _ (body : JobBody) (sealed_is : d.change ≡ SealNow body) where
+    sealed_so : (first ≡ None) × (body ≡ backup_body says.asked moment s)
+    sealed_so = at first refl
+      where
+        at : (o : Option Answer) → first ≡ o → (first ≡ None) × (body ≡ backup_body says.asked moment s)
+        at None is = (is, cc (sym sealed_is ∙ says.change ∙ ap (λ (o : Option Answer). unless o (SealNow (backup_body says.asked moment s))) is))
+        at (Some a) is = absurd (cc (sym sealed_is ∙ says.change ∙ ap (λ (o : Option Answer). unless o (SealNow (backup_body says.asked moment s))) is))
+
+    steps_so : step s request payload moment ≡ backup_done says.asked payload moment s
+    steps_so = says.steps ∙ ap (λ (o : Option Answer). unless_refused s o (backup_done says.asked payload moment s)) sealed_so.0
+
+    answer_so : d.answer ≡ (backup_done says.asked payload moment s).0
+    answer_so = says.answer ∙ ap (λ (o : Option Answer). (unless_refused s o (backup_done says.asked payload moment s)).0) sealed_so.0
+
+    length_so : (whole_of body moment).length ≡ length payload
+    length_so = ap (λ (b : JobBody). (whole_of b moment).length) sealed_so.1 ∙ says.size
+
+    base_so : (whole_of body moment).base ≡ base.None
+    base_so = ap (λ (b : JobBody). (whole_of b moment).base) sealed_so.1
+
+-- What a decision says of a backup.
+
+abbrev pub Decided : Known → Request → ℕ → ℕ → Decision → Type 0
+Decided known request size moment d = (s : State) (bytes : List ℕ) → IsStateOf known.site known.catalogue s → length bytes ≡ size → IsDecision s request bytes moment d
+
+module _ (known : Known) (request : Request) (payload : List ℕ) (size moment : ℕ) (d : Decision) (backup : is_backup request ≡ true) (size_is : length payload ≡ size) (decided : Decided known request size moment d) where
+  said_seen : Said (seen known.site known.catalogue) request payload moment d
+  said_seen = said (seen known.site known.catalogue) request payload moment d backup (decided (seen known.site known.catalogue) payload (record { site_is = refl; images_are = entries_seen known.catalogue; sized = sized_seen known.catalogue; idle = refl }) size_is)
+
+  said_here : (records : List Found) (images : List Image) (stored : List Stored) → Remembers records known images → Said (built known.site images stored) request payload moment d
+  said_here records images stored remembers = said (built known.site images stored) request payload moment d backup (decided (built known.site images stored) payload (record { site_is = refl; images_are = remembers.listed; sized = remembers.sized; idle = refl }) size_is)
+
+  pub refusal_plain : ((body : JobBody) → d.change ≢ SealNow body) → IsStepRefusal d.answer
+  refusal_plain other = (refused_so (seen known.site known.catalogue) request payload moment d said_seen other).0
+
+  pub refused_here : ((body : JobBody) → d.change ≢ SealNow body) → (records : List Found) (images : List Image) (stored : List Stored) → Remembers records known images → IsRefused (built known.site images stored) request payload moment d.answer
+  refused_here other records images stored remembers = (refused_so (built known.site images stored) request payload moment d (said_here records images stored remembers) other).1
+
+  module _ (body : JobBody) (sealed_is : d.change ≡ SealNow body) where
+    pub done_here : (line : List ℕ) × (d.answer ≡ Done line)
+    done_here = (_, answer_so (seen known.site known.catalogue) request payload moment d said_seen body sealed_is)
+
+    pub length_here : (whole_of body moment).length ≡ length payload
+    length_here = length_so (seen known.site known.catalogue) request payload moment d said_seen body sealed_is
+
+    pub base_here : (whole_of body moment).base ≡ base.None
+    base_here = base_so (seen known.site known.catalogue) request payload moment d said_seen body sealed_is
+
+    pub ready_here : (records : List Found) (images : List Image) (stored : List Stored) (end : ℕ) (image : WholeImage) (staged line : List ℕ) (new : Known) → Remembers records known images → moment ≤ last_moment → image ≡ whole_of body moment → d.answer ≡ Done line → IsStaged (record { entry = entry.WholeImage image; bytes = payload }) staged
+        → IsTaken records end (built known.site images stored) (record { entry = entry.WholeImage image; bytes = payload }) new → IsReady records end (built known.site images stored) request payload moment staged line new
+    ready_here records images stored end image staged line new remembers early image_is line_is staged_is taken =
+        let s : State = built known.site images stored in
+        let says : Said s request payload moment d = said_here records images stored remembers in
+        let sealed_now = sealed_so s request payload moment d says body sealed_is in
+        let row_is : whole_of (backup_body says.asked moment s) moment ≡ image = ap (λ (b : JobBody). whole_of b moment) (sym sealed_now.1) ∙ sym image_is in
+        let made : Some (built new.site taken.images taken.stored) ≡ Some (backup_done says.asked payload moment s).1 =
+        sym taken.applies ∙ ap (λ (w : WholeImage). apply s (record { entry = entry.WholeImage w; bytes = payload })) (sym row_is) ∙ applies known.site images stored says.asked moment payload says.size remembers.whole remembers.below early sealed_now.0 in
+        let state_is : (backup_done says.asked payload moment s).1 ≡ built new.site taken.images taken.stored = cc (sym made) in
+        let answer_is : (backup_done says.asked payload moment s).0 ≡ Done line = sym (answer_so s request payload moment d says body sealed_is) ∙ line_is in
+        record {
+          row = record { entry = entry.WholeImage image; bytes = payload };
+          staged_is = staged_is;
+          images = taken.images;
+          stored = taken.stored;
+          applies = taken.applies;
+          steps = steps_so s request payload moment d says body sealed_is ∙ (λ i. (answer_is i, state_is i));
+          remembers = taken.remembers;
+        }
