@@ -32,6 +32,7 @@ use Rattle.site_desk.specs.Known.{built, Remembers, IsSet, SameKnown}
 use Rattle.site_desk.specs.Steps.{IsReady, IsRefused, IsStepRefusal}
 use Rattle.site_desk.specs.declared.known.Known.{Known}
 use Rattle.site_desk.proofs.Knowing.{remembers_more}
+use Rattle.site_desk.proofs.SiteSettings.{site_settings}
 use Rattle.site_desk.proofs.Refusing.{refused_as, ArePlain, first_plain, sized_seen}
 
 setting_steps : (s : State) (request : Request) (payload : List ℕ) (moment : ℕ) → is_setting request ≡ true → step s request payload moment ≡ setting_step request s

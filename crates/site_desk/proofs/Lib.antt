@@ -11,6 +11,7 @@ pub mod Restoring
 pub mod Sealing
 pub mod SettingLines
 pub mod SiteChanges
+pub mod SiteSettings
 pub mod SizedRecords
 pub mod Standings
 pub mod States
