@@ -62,6 +62,23 @@ impl Zone {
         }))
     }
 
+    /// The same zone once more.
+    pub fn copy(&self, alloc: Global) -> Result<Zone, NoMemory>
+        ensures { IfOk result (λ copy. copy ≡ self.now) }
+    {
+        match &self.source {
+            Source::Fixed(seconds) => Ok(Zone {
+                source: Source::Fixed(*seconds),
+            }),
+            Source::Rule { text, read } => Ok(Zone {
+                source: Source::Rule {
+                    text: Text::new(alloc, text.bytes())?,
+                    read: *read,
+                },
+            }),
+        }
+    }
+
     /// The seconds that a zone of one offset is ahead of UTC. None exactly for a rule.
     pub fn offset(&self) -> Option<i32>
         ensures { result ≡ fixed_seconds self.now }
