@@ -32,10 +32,9 @@ use Rattle.site_desk.specs.Known.{built, Remembers, IsSet, SameKnown}
 use Rattle.site_desk.specs.Steps.{IsReady, IsRefused, IsStepRefusal}
 use Rattle.site_desk.specs.declared.known.Known.{Known}
 use Rattle.site_desk.proofs.Knowing.{remembers_more}
-use Rattle.site_desk.proofs.SiteSettings.{site_settings}
 use Rattle.site_desk.proofs.Refusing.{refused_as, ArePlain, first_plain, sized_seen}
 
-setting_steps : (s : State) (request : Request) (payload : List ℕ) (moment : ℕ) → is_setting request ≡ true → step s request payload moment ≡ setting_step request s
+pub setting_steps : (s : State) (request : Request) (payload : List ℕ) (moment : ℕ) → is_setting request ≡ true → step s request payload moment ≡ setting_step request s
 setting_steps s Load payload moment is = absurd (cc is)
 setting_steps s (Backup client policy schedule start) payload moment is = absurd (cc is)
 setting_steps s (Restore id copy) payload moment is = absurd (cc is)
@@ -76,7 +75,7 @@ abbrev pub Sets : Request → Known → Known → Option Answer → Type 0
 Sets request old new refusal = (images : List Image) (stored : List Stored) → entries images ≡ old.catalogue → ((i : Image) → Contains images i → i.entry.length ≡ length i.bytes) → IsSet (built old.site images stored) request old new refusal
 
 module _ (request : Request) (old new : Known) (refusal : Option Answer) (sets : Sets request old new refusal) where
-  set_seen : IsSet (seen old.site old.catalogue) request old new refusal
+  pub set_seen : IsSet (seen old.site old.catalogue) request old new refusal
   set_seen = sets (map blank old.catalogue) [] (entries_seen old.catalogue) (sized_seen old.catalogue)
 
   pub refusal_plain : (a : Answer) → refusal ≡ Some a → IsStepRefusal a

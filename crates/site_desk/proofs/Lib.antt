@@ -3,6 +3,7 @@ pub mod Changing
 pub mod ExtentLemmas
 pub mod ImageLemmas
 pub mod Knowing
+pub mod Loading
 pub mod NamedLemmas
 pub mod Opening
 pub mod Refusing
