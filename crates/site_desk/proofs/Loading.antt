@@ -1,6 +1,6 @@
 -- The requests of a site file, all of them or none.
-use Rattle.std.proofs.Common.{◌≡◌, ◌⊎◌, inl, inr, ⊎_elim, ◌≤◌, ◌<◌, ◌+◌, ◌^◌, ℕ, Bool, true, false, List, [], ◌∷◌, length, drop, get_or, Some, None, Ok, Err, refl, sym, ◌∙◌, ap, subst}
-use Rattle.std.specs.Prelude.{Option, Result, All, if◌then◌else◌, map, is_none, Contains, IsUtf8}
+use Rattle.std.proofs.Common.{◌≡◌, ⊎_elim, ◌≤◌, ◌<◌, ◌+◌, ℕ, Bool, true, false, List, [], ◌∷◌, length, drop, get_or, Some, None, Ok, Err, refl, sym, ◌∙◌, ap, subst}
+use Rattle.std.specs.Prelude.{Option, Result, All, if◌then◌else◌, map, IsUtf8}
 use Rattle.std.specs.List.{AllPass}
 use Rattle.std.specs.Option.{option_map_or, option_and_then}
 use Rattle.std.specs.Str.{is_utf8}
@@ -8,7 +8,7 @@ use Rattle.std.proofs.lemmas.List.{at_drop_more, at_drop_all}
 use Rattle.std.proofs.lemmas.Str.{IsUtf8-from_is_utf8, is_utf8-from_IsUtf8}
 use Rattle.site_types.specs.Lines.{IsFormed, line_of}
 use Rattle.site_types.specs.declared.answer.Answer.{Answer}
-use Rattle.site_types.specs.declared.answer.Answer.TheVariants.{Done, OutOfMemory, BadRequest}
+use Rattle.site_types.specs.declared.answer.Answer.TheVariants.{Done, BadRequest}
 use Rattle.site_types.specs.declared.request.Request.{Request}
 use Rattle.site_types.specs.declared.request.Request.TheVariants.{Load}
 use Rattle.pool_journal.proofs.ImageBytes.{still_there}
@@ -18,14 +18,14 @@ use Rattle.pool_journal.specs.Records.{Found}
 use Rattle.pool_journal.specs.Stops.{with_one}
 use Rattle.policy_book.specs.SiteFile.{site_requests}
 use Rattle.desk_model.specs.declared.site.Site.{Site}
-use Rattle.desk_model.specs.State.{State, Image, Stored, entries}
+use Rattle.desk_model.specs.State.{State, Image, Stored}
 use Rattle.desk_model.specs.Refusals.{first_refusal}
-use Rattle.desk_model.specs.Settings.{is_setting, setting_refusals, stored_after, set_by, all_set, count_text, load_of, load_result, load_step, file_requests}
+use Rattle.desk_model.specs.Settings.{is_setting, setting_refusals, stored_after, set_by, all_set, count_text, load_of, load_result, file_requests}
 use Rattle.desk_model.specs.Step.{step}
 use Rattle.desk_rules.specs.Seen.{blank, seen}
 use Rattle.desk_rules.proofs.SeenLemmas.{entries_seen}
 use Rattle.site_desk.specs.Stands.{settled, settled_by}
-use Rattle.site_desk.specs.Known.{built, Remembers, IsSet, SameKnown}
+use Rattle.site_desk.specs.Known.{built, Remembers, IsSet}
 use Rattle.site_desk.specs.Steps.{AreAllSet, AreListed, AreSet, IsReady, IsRefused, IsStepRefusal}
 use Rattle.site_desk.specs.declared.known.Known.{Known}
 use Rattle.site_desk.proofs.Changing.{Sets, set_seen, setting_plain, settles}

@@ -1,13 +1,13 @@
 -- Steps that are refused.
-use Rattle.std.proofs.Common.{◌≡◌, ◌<◌, ℕ, zero, suc, Bool, true, false, List, [], ◌∷◌, ◌++◌, length, replicate, Some, None, refl, sym, ◌∙◌, ap, subst, arith}
+use Rattle.std.proofs.Common.{◌≡◌, ℕ, zero, suc, Bool, true, false, List, [], ◌∷◌, length, Some, refl, sym, ap, subst, arith}
 use Rattle.std.proofs.lemmas.List.{length-replicate}
-use Rattle.std.specs.Prelude.{Option, if◌then◌else◌, map, Contains}
+use Rattle.std.specs.Prelude.{if◌then◌else◌, map, Contains}
 use Rattle.site_types.specs.declared.answer.Answer.{Answer}
 use Rattle.site_types.specs.declared.answer.Answer.TheVariants.{Done, OutOfMemory, DiskFault}
 use Rattle.site_types.specs.declared.image.ImageRecord.{ImageRecord}
 use Rattle.site_types.specs.declared.request.Request.{Request}
 use Rattle.desk_model.specs.State.{State, Image}
-use Rattle.desk_model.specs.Refusals.{first_refusal, unless_refused}
+use Rattle.desk_model.specs.Refusals.{first_refusal}
 use Rattle.desk_model.specs.Step.{step}
 use Rattle.desk_rules.specs.Seen.{blank}
 use Rattle.site_desk.specs.Steps.{IsRefused, IsStepRefusal}

@@ -1,16 +1,13 @@
 -- A backup at once.
-use Rattle.std.proofs.Common.{◌≡◌, ◌≢◌, ◌≤◌, ◌<◌, ◌+◌, ◌^◌, ℕ, zero, suc, max, Bool, true, false, List, [], ◌∷◌, ◌++◌, length, Some, None, refl, sym, ◌∙◌, ap, subst, arith}
-use Rattle.std.specs.Prelude.{Option, if◌then◌else◌, ◌&&◌, ◌||◌, not, is_none, is_some, nat_le, nat_lt, codes, unwrap_or, find, map, Contains}
+use Rattle.std.proofs.Common.{◌≡◌, ◌≢◌, ◌≤◌, ◌<◌, ◌+◌, ◌^◌, ℕ, zero, suc, Bool, true, false, List, [], ◌∷◌, ◌++◌, length, Some, None, refl, sym, ◌∙◌, ap, subst, arith}
+use Rattle.std.specs.Prelude.{Option, if◌then◌else◌, ◌&&◌, ◌||◌, not, is_none, is_some, nat_le, nat_lt, unwrap_or, Contains}
 use Rattle.std.specs.Option.{option_map}
 use Rattle.std.specs.Str.{bytes_eq}
 use Rattle.std.proofs.lemmas.Bool.Decides.{nat_tests}
 use Rattle.std.proofs.lemmas.List.Elements.{Contains-append_left, Contains-push}
-use Rattle.site_types.specs.Ids.{id_text}
 use Rattle.site_types.specs.Limits.{last_moment}
 use Rattle.site_types.specs.declared.answer.Answer.{Answer}
 use Rattle.site_types.specs.declared.answer.Answer.TheVariants.{Done}
-use Rattle.site_types.specs.declared.id.BackupId.{BackupId}
-use Rattle.site_types.specs.declared.image.Base.{Base}
 use Rattle.site_types.specs.declared.image.Base.TheVariants as base
 use Rattle.site_types.specs.declared.request.Request.{Request}
 use Rattle.site_types.specs.declared.request.Request.TheVariants.{Backup}
@@ -20,21 +17,19 @@ use Rattle.pool_journal.specs.Entries.{Record, spelled_entry, IsStaged}
 use Rattle.pool_journal.specs.Records.{Found}
 use Rattle.slp_tree.specs.Lifecycles.{Lifecycle, version_in, version_named, latest_named}
 use Rattle.policy_book.specs.Lists.{named, has}
-use Rattle.policy_book.specs.Book.{Book, Policy, policy_name, client_limit, basic, adhoc}
-use Rattle.policy_book.specs.Changes.{has_lifecycle}
+use Rattle.policy_book.specs.Book.{Policy, policy_name, client_limit, basic, adhoc}
 use Rattle.desk_model.specs.declared.site.Site.{Site}
 use Rattle.desk_model.specs.State.{State, Image, Stored, has_image}
 use Rattle.desk_model.specs.Refusals.{first_refusal, unless_refused}
-use Rattle.desk_model.specs.Backups.{Asked, asked_of, image_limit, new_time, takes_all, is_known, latest_version, policy_asked, backup_refusals, backup_done, backup_step, sealed}
+use Rattle.desk_model.specs.Backups.{Asked, asked_of, image_limit, takes_all, is_known, latest_version, policy_asked, backup_refusals, backup_done, backup_step, sealed}
 use Rattle.desk_model.specs.Step.{step}
-use Rattle.desk_rules.specs.declared.decision.Change.{Change}
 use Rattle.desk_rules.specs.declared.decision.Change.TheVariants.{SealNow}
 use Rattle.desk_rules.specs.declared.decision.Decision.{Decision}
 use Rattle.desk_rules.specs.declared.decision.JobBody.{JobBody}
 use Rattle.desk_rules.specs.Decisions.{IsStateOf, IsDecision, unless, backup_body, backup_change}
 use Rattle.desk_rules.specs.Seen.{seen}
 use Rattle.desk_rules.proofs.SeenLemmas.{entries_seen}
-use Rattle.site_desk.specs.Stands.{apply, apply_entry, image_fits, whole_image, whole_unit}
+use Rattle.site_desk.specs.Stands.{apply, image_fits, whole_image, whole_unit}
 use Rattle.site_desk.specs.Known.{built, TimesBelow, IsWhole, Remembers}
 use Rattle.site_desk.specs.Replays.{Reaches, IsReached}
 use Rattle.site_desk.specs.Desk.{whole_of}

@@ -1,5 +1,5 @@
 -- The requests of a site file change the site.
-use Rattle.std.proofs.Common.{◌≡◌, ◌<◌, ◌+◌, ℕ, zero, suc, ℤ, Bool, true, false, List, [], ◌∷◌, ◌++◌, length, Some, None, Ok, Err, refl, subst, arith}
+use Rattle.std.proofs.Common.{◌≡◌, ◌+◌, ℕ, zero, suc, ℤ, Bool, true, false, List, [], ◌∷◌, ◌++◌, length, Some, None, Ok, Err, refl, subst, arith}
 use Rattle.std.specs.Prelude.{Option, Result, All, if◌then◌else◌, nat_lt, codes, unwrap_or, option_map}
 use Rattle.std.specs.List.{AllPass}
 use Rattle.std.specs.Option.{option_and_then}
@@ -9,7 +9,7 @@ use Rattle.toml.specs.Parse.{parse_document}
 use Rattle.site_types.specs.declared.calendar.CalendarItem.{CalendarItem}
 use Rattle.site_types.specs.declared.image.Kind.{Kind}
 use Rattle.site_types.specs.declared.request.Request.{Request}
-use Rattle.site_types.specs.declared.request.Request.TheVariants.{UnitAdd, ClientAdd, PolicyAdd, PolicyClientAdd, PolicySelect, ScheduleAdd, ZoneSet}
+use Rattle.site_types.specs.declared.request.Request.TheVariants.{UnitAdd, ClientAdd, PolicyClientAdd, PolicySelect, ScheduleAdd, ZoneSet}
 use Rattle.site_types.specs.declared.schedule.PolicyType.{PolicyType}
 use Rattle.site_types.specs.declared.window.Windows.{Windows}
 use Rattle.site_types.specs.Keys.{among, name_of, first_bad}

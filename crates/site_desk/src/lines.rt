@@ -9,6 +9,7 @@ use std::alloc::{AllocError, Global};
 
 // The length of a line fits into two bytes, and that of a record into four.
 const LINE_END: u64 = 65_536;
+
 const RECORD_END: u64 = 4_294_967_296;
 
 // The kind of a settings record, and the number of its lines.

@@ -32,7 +32,10 @@ fn lines_of(alloc: Global, requests: &[Request]) -> Result<Vec<Text>, NoMemory>
 fn count_text(alloc: Global, requests: &[Request]) -> Result<Text, NoMemory>
     ensures { IfOk result (λ t. t ≡ count_text requests.now) }
 {
-    let mut text = Buffer::new().format(requests.len()).as_bytes().to_vec(alloc)?;
+    let mut text = Buffer::new()
+        .format(requests.len())
+        .as_bytes()
+        .to_vec(alloc)?;
     text.push(b'\n')?;
     Ok(Text::from_vec(text))
 }

@@ -1,5 +1,4 @@
-use Rattle.std.proofs.Common.{◌≡◌, ◌∙◌, ap, sym, subst, refl}
-use Rattle.site_types.specs.declared.image.Base.{Base}
+use Rattle.std.proofs.Common.{◌∙◌, ap, sym, refl}
 use Rattle.pool_journal.specs.declared.entry.WholeImage.{WholeImage}
 use Rattle.site_desk.proofs.Sealing.{refusal_plain, refused_here, done_here, length_here, base_here, ready_here}
 use Rattle.site_desk.proofs.backup.prepare_backup.Goals as goal

@@ -1,4 +1,4 @@
-use Rattle.std.proofs.Common.{◌∙◌, inr, subst}
+use Rattle.std.proofs.Common.{inr, subst}
 use Rattle.std.specs.Prelude.{Option}
 use Rattle.site_types.specs.declared.answer.Answer.{Answer}
 use Rattle.desk_model.specs.Settings.{all_set}
