@@ -12,15 +12,13 @@ ghost use Rattle.site_desk.specs.Steps.{is_backup, IsReady, IsRefused, IsStepRef
 
 use crate::extents::next_extent;
 use crate::known::Known;
+use crate::lines::RECORD_END;
 use crate::prepare::Ready;
 use crate::replay::take_image;
 use desk_rules::{Change, Decision, JobBody, decide};
 use pool_journal::{Entry, Journal, Staged, WholeImage};
 use site_types::{Answer, NoMemory, Request};
 use std::alloc::{AllocError, Global};
-
-// The length of a record's body fits into four bytes.
-const RECORD_END: u64 = 4_294_967_296;
 
 // What a record has of an image before its bytes, without its names.
 const WITHOUT_NAMES: u64 = 44;
@@ -61,8 +59,8 @@ fn is_writable(image: &WholeImage, payload: &[u8]) -> bool
     (WITHOUT_NAMES + names as u64).saturating_add(payload.len() as u64) < RECORD_END
 }
 
-// Takes all memory of an image's record, and takes the image in. What nothing refuses is written and fits, where the vault tells
-// what it holds; what isn't and doesn't is taken for want of memory.
+// Takes all memory of an image's record, and takes the image in. An image that nothing refuses fits wherever the vault tells what
+// it holds. One that doesn't fit is never recorded, since no opening would take it.
 fn seal(
     alloc: Global,
     known: &mut Known,

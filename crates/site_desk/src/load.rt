@@ -84,7 +84,7 @@ fn set_all(alloc: Global, known: &mut Known, requests: &[Request]) -> Result<(),
     match set_each(alloc, known, requests) {
         Ok(None) => Ok(()),
         Ok(Some(refusal)) => {
-            known.site = before;
+            known.site = before; // Those before it were carried out.
             Err(refusal)
         }
         Err(_) => {
