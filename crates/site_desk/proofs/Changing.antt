@@ -1,19 +1,18 @@
 -- A request that changes the site.
-use Rattle.std.proofs.Common.{◌≡◌, ◌+◌, ◌<◌, ◌^◌, ℕ, Bool, true, false, List, [], ◌∷◌, ◌++◌, length, Some, None, Ok, refl, sym, ◌∙◌, ap, subst}
-use Rattle.std.specs.Prelude.{Option, if◌then◌else◌, ◌&&◌, is_none, map, Contains, Result, IfOk}
+use Rattle.std.proofs.Common.{◌≡◌, ℕ, Bool, true, List, [], ◌∷◌, ◌++◌, length, Some, None, refl, sym, ◌∙◌, ap}
+use Rattle.std.specs.Prelude.{Option, if◌then◌else◌, ◌&&◌, is_none, map, Contains, Result}
 use Rattle.std.specs.Option.{option_and_then}
 use Rattle.std.specs.Result.{result_ok}
 use Rattle.std.specs.Str.{bytes_eq}
 use Rattle.std.proofs.lemmas.Slice.Eq.{bytes_eq-Decides}
-use Rattle.site_types.specs.Lines.{IsFormed, line_of, read_line}
+use Rattle.site_types.specs.Lines.{IsFormed, line_of}
 use Rattle.site_types.specs.declared.answer.Answer.{Answer}
 use Rattle.site_types.specs.declared.answer.Answer.TheVariants.{Done}
-use Rattle.site_types.specs.declared.image.ImageRecord.{ImageRecord}
 use Rattle.site_types.specs.declared.request.Request.{Request}
 use Rattle.site_types.specs.declared.request.Request.TheVariants.{ClientRemove, PolicyRemove, Load, Backup, Restore}
 use Rattle.pool_journal.proofs.ImageBytes.{still_there}
 use Rattle.pool_journal.specs.declared.entry.Entry.TheVariants as entry
-use Rattle.pool_journal.specs.Entries.{Record, IsStaged, spelled_entry}
+use Rattle.pool_journal.specs.Entries.{Record, IsStaged}
 use Rattle.pool_journal.specs.Records.{Found}
 use Rattle.pool_journal.specs.Stops.{with_one}
 use Rattle.policy_book.specs.declared.fault.BookFault.{BookFault}
@@ -22,11 +21,11 @@ use Rattle.policy_book.specs.Requests.{refusals_of}
 use Rattle.desk_model.specs.declared.site.Site.{Site}
 use Rattle.desk_model.specs.State.{State, Image, Stored, entries}
 use Rattle.desk_model.specs.Refusals.{first_refusal, unless_refused}
-use Rattle.desk_model.specs.Settings.{is_setting, refusal_answer, use_refusals, setting_refusals, site_after, stored_after, set_by, setting_step}
+use Rattle.desk_model.specs.Settings.{is_setting, refusal_answer, use_refusals, setting_refusals, stored_after, set_by, setting_step}
 use Rattle.desk_model.specs.Step.{step}
 use Rattle.desk_rules.specs.Seen.{blank, seen}
 use Rattle.desk_rules.proofs.SeenLemmas.{entries_seen}
-use Rattle.site_desk.specs.Stands.{apply, settled, settled_by, settled_as}
+use Rattle.site_desk.specs.Stands.{settled, settled_by, settled_as}
 use Rattle.site_desk.specs.Extents.{extent_of}
 use Rattle.site_desk.specs.Known.{built, Remembers, IsSet, SameKnown}
 use Rattle.site_desk.specs.Steps.{IsReady, IsRefused, IsStepRefusal}
@@ -34,7 +33,7 @@ use Rattle.site_desk.specs.declared.known.Known.{Known}
 use Rattle.site_desk.proofs.Knowing.{remembers_more}
 use Rattle.site_desk.proofs.Refusing.{refused_as, ArePlain, first_plain, sized_seen}
 
-setting_steps : (s : State) (request : Request) (payload : List ℕ) (moment : ℕ) → is_setting request ≡ true → step s request payload moment ≡ setting_step request s
+pub setting_steps : (s : State) (request : Request) (payload : List ℕ) (moment : ℕ) → is_setting request ≡ true → step s request payload moment ≡ setting_step request s
 setting_steps s Load payload moment is = absurd (cc is)
 setting_steps s (Backup client policy schedule start) payload moment is = absurd (cc is)
 setting_steps s (Restore id copy) payload moment is = absurd (cc is)
@@ -75,7 +74,7 @@ abbrev pub Sets : Request → Known → Known → Option Answer → Type 0
 Sets request old new refusal = (images : List Image) (stored : List Stored) → entries images ≡ old.catalogue → ((i : Image) → Contains images i → i.entry.length ≡ length i.bytes) → IsSet (built old.site images stored) request old new refusal
 
 module _ (request : Request) (old new : Known) (refusal : Option Answer) (sets : Sets request old new refusal) where
-  set_seen : IsSet (seen old.site old.catalogue) request old new refusal
+  pub set_seen : IsSet (seen old.site old.catalogue) request old new refusal
   set_seen = sets (map blank old.catalogue) [] (entries_seen old.catalogue) (sized_seen old.catalogue)
 
   pub refusal_plain : (a : Answer) → refusal ≡ Some a → IsStepRefusal a
@@ -94,7 +93,7 @@ module _ (request : Request) (old new : Known) (refusal : Option Answer) (sets :
     -- the model refuses it
     pub refused_here : (a : Answer) → refusal ≡ Some a → IsRefused s request payload moment a
     refused_here a is =
-        refused_as s request payload moment a (refusal_plain a is) (setting_steps s request payload moment setting ∙ ap (λ (o : Option Answer). unless_refused s o (Done [], set_by request s)) (set_here.first ∙ is))
+        refused_as s request payload moment a (refusal_plain a is).1 (setting_steps s request payload moment setting ∙ ap (λ (o : Option Answer). unless_refused s o (Done [], set_by request s)) (set_here.first ∙ is))
 
     -- or it is ready to be recorded
     abbrev row : Record

@@ -1,10 +1,9 @@
 -- What is known of records.
-use Rattle.std.proofs.Common.{◌≡◌, List, Some, None, sym, subst}
+use Rattle.std.proofs.Common.{◌≡◌, List, sym, subst}
 use Rattle.std.specs.Prelude.{Option, Contains}
 use Rattle.pool_journal.specs.Records.{Found}
 use Rattle.desk_model.specs.declared.site.Site.{Site}
 use Rattle.desk_model.specs.State.{Image, entries, image_named}
-use Rattle.site_types.specs.declared.id.BackupId.{BackupId}
 use Rattle.site_types.specs.declared.image.ImageRecord.{ImageRecord}
 use Rattle.site_desk.specs.Extents.{extent_of, IsKept}
 use Rattle.site_desk.specs.Known.{Remembers, SameKnown, TimesBelow, IsWhole}

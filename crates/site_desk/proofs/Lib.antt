@@ -3,6 +3,7 @@ pub mod Changing
 pub mod ExtentLemmas
 pub mod ImageLemmas
 pub mod Knowing
+pub mod Loading
 pub mod NamedLemmas
 pub mod SiteChanges
 pub mod SizedRecords
@@ -10,7 +11,9 @@ pub mod Opening
 pub mod Refusing
 pub mod ReplayLemmas
 pub mod Restoring
+pub mod Sealing
 pub mod SettingLines
+pub mod SiteSettings
 pub mod Standings
 pub mod States
 pub mod Writing

@@ -1,23 +1,24 @@
 -- Steps that are refused.
-use Rattle.std.proofs.Common.{◌≡◌, ◌<◌, ℕ, zero, suc, Bool, true, false, List, [], ◌∷◌, ◌++◌, length, replicate, Some, None, refl, sym, ◌∙◌, ap, subst, arith}
+use Rattle.std.proofs.Common.{◌≡◌, ℕ, zero, suc, Bool, true, false, List, [], ◌∷◌, length, Some, refl, sym, ap, subst, arith}
 use Rattle.std.proofs.lemmas.List.{length-replicate}
-use Rattle.std.specs.Prelude.{Option, if◌then◌else◌, map, Contains}
+use Rattle.std.specs.Prelude.{if◌then◌else◌, map, Contains}
 use Rattle.site_types.specs.declared.answer.Answer.{Answer}
 use Rattle.site_types.specs.declared.answer.Answer.TheVariants.{Done, OutOfMemory, DiskFault}
 use Rattle.site_types.specs.declared.image.ImageRecord.{ImageRecord}
 use Rattle.site_types.specs.declared.request.Request.{Request}
 use Rattle.desk_model.specs.State.{State, Image}
-use Rattle.desk_model.specs.Refusals.{first_refusal, unless_refused}
+use Rattle.desk_model.specs.Refusals.{first_refusal}
 use Rattle.desk_model.specs.Step.{step}
 use Rattle.desk_rules.specs.Seen.{blank}
+use Rattle.site_desk.specs.Desk.{IsRefusal}
 use Rattle.site_desk.specs.Steps.{IsRefused, IsStepRefusal}
 
 -- a refusal that is the model's
-pub refused_as : (s : State) (request : Request) (payload : List ℕ) (moment : ℕ) (a : Answer) → IsStepRefusal a → step s request payload moment ≡ (a, s) → IsRefused s request payload moment a
-refused_as s request payload moment (Done body) plain is = absurd plain.1
-refused_as s request payload moment DiskFault plain is = absurd plain.1
-refused_as s request payload moment OutOfMemory plain is = (tt, refl)
-refused_as s request payload moment a plain is = (sym (ap (λ (p : Answer × State). p.0) is), sym (ap (λ (p : Answer × State). p.1) is))
+pub refused_as : (s : State) (request : Request) (payload : List ℕ) (moment : ℕ) (a : Answer) → IsRefusal a → step s request payload moment ≡ (a, s) → IsRefused s request payload moment a
+refused_as s request payload moment (Done body) refusal is = absurd refusal
+refused_as s request payload moment DiskFault refusal is = absurd refusal
+refused_as s request payload moment OutOfMemory refusal is = (tt, refl)
+refused_as s request payload moment a refusal is = (sym (ap (λ (p : Answer × State). p.0) is), sym (ap (λ (p : Answer × State). p.1) is))
 
 pub without_memory : (s : State) (request : Request) (payload : List ℕ) (moment : ℕ) → IsRefused s request payload moment OutOfMemory
 without_memory s request payload moment = (tt, refl)

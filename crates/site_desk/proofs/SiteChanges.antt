@@ -1,5 +1,5 @@
 -- What a request that changes the site leaves of what is known.
-use Rattle.std.proofs.Common.{◌≡◌, ◌∙◌, ◌≤◌, ℕ, Bool, true, false, List, [], ◌∷◌, ◌++◌, length, map, refl, sym, ap, subst, arith}
+use Rattle.std.proofs.Common.{◌≡◌, ◌∙◌, ◌≤◌, ℕ, Bool, true, false, List, [], ◌∷◌, length, map, refl, sym, ap, subst}
 use Rattle.std.specs.Prelude.{Option, Some, None, cond, is_some, not, ◌||◌, ◌&&◌, ◌==◌, nat_le, if◌then◌else◌, codes, unwrap_or, Contains}
 use Rattle.std.specs.Option.{option_map_or}
 use Rattle.std.specs.Str.{bytes_eq}
@@ -8,20 +8,17 @@ use Rattle.site_types.specs.declared.id.BackupId.{BackupId}
 use Rattle.site_types.specs.declared.image.ImageRecord.{ImageRecord}
 use Rattle.site_types.specs.declared.request.Request.{Request}
 use Rattle.site_types.specs.declared.request.Request.TheVariants.{UnitAdd, UnitChange, ClientAdd, ClientRemove, PolicyAdd, PolicyChange, PolicyRemove, PolicyClientAdd, PolicyClientRemove, PolicySelect, PolicyUnselect, ScheduleAdd, ScheduleChange, ScheduleRemove, ZoneSet, Load, Backup, Restore}
-use Rattle.policy_book.specs.Lists.{named, has, without}
+use Rattle.policy_book.specs.Lists.{named, has}
 use Rattle.policy_book.specs.Book.{Book, Policy, unit_name, client_name, policy_name, client_limit, policy_limit}
 use Rattle.policy_book.specs.declared.client.Client.{Client}
 use Rattle.policy_book.specs.Changes.{has_lifecycle, last_of, lister}
-use Rattle.policy_book.specs.Requests.{book_after}
 use Rattle.image_catalogue.specs.Images.{same_id, first_of_client, record_named}
 use Rattle.pool_journal.specs.Records.{Found}
 use Rattle.desk_model.specs.declared.site.Site.{Site}
 use Rattle.desk_model.specs.State.{State, Image, Stored, entries, has_image}
 use Rattle.desk_model.specs.Refusals.{first_refusal, unless_refused}
 use Rattle.desk_model.specs.Settings.{is_setting, setting_refusals, setting_step, site_after}
-use Rattle.desk_rules.specs.declared.decision.Change.{Change}
-use Rattle.desk_rules.specs.declared.decision.Change.TheVariants.{Nothing, Settings, SealNow}
-use Rattle.desk_rules.specs.declared.decision.Change.TheVariants as change
+use Rattle.desk_rules.specs.declared.decision.Change.TheVariants.{Settings}
 use Rattle.desk_rules.specs.declared.decision.Decision.{Decision}
 use Rattle.desk_rules.specs.Decisions.{IsStateOf, IsDecision, unless}
 use Rattle.site_desk.specs.Known.{built, IsWhole, TimesBelow, Remembers, IsSet, SameKnown, is_settings}
@@ -31,7 +28,7 @@ use Rattle.site_desk.proofs.Admitting.{has_entry}
 use Rattle.site_desk.proofs.ExtentLemmas.{catalogued-has, at_same, same_is}
 use Rattle.site_desk.specs.declared.extents.Extent.{Extent}
 use Rattle.site_desk.specs.declared.known.Known.{Known}
-use Rattle.site_desk.proofs.NamedLemmas.{named-put, named-without, has-changed, each-put, each-changed, each-without, text_is, text_self}
+use Rattle.site_desk.proofs.NamedLemmas.{named-put, named-without, has-changed, each-put, each-changed, each-without, text_is}
 
 -- What a decision says.
 

@@ -1,20 +1,20 @@
 -- A step whose record is made ready and then written.
-use Rattle.std.proofs.Common.{◌≡◌, ◌≢◌, ◌+◌, ◌<◌, ◌≤◌, ◌^◌, ℕ, List, length, Result, Ok, Err, Some, refl, sym, ◌∙◌, ap, subst, arith}
+use Rattle.std.proofs.Common.{◌≡◌, ◌+◌, ℕ, List, length, Result, Ok, Err, Some, refl, sym, ◌∙◌, ap, subst, arith}
 use Rattle.std.specs.Prelude.{OnOk}
 use Rattle.site_types.specs.declared.answer.Answer.{Answer}
-use Rattle.site_types.specs.declared.answer.Answer.TheVariants.{Done, OutOfMemory, DiskFault}
+use Rattle.site_types.specs.declared.answer.Answer.TheVariants.{Done, DiskFault}
 use Rattle.site_types.specs.declared.request.Request.{Request}
 use Rattle.vault_disk.specs.Disk.{Disk}
 use Rattle.pool_journal.specs.Entries.{Record, spelled_entry, IsStaged}
 use Rattle.pool_journal.specs.Records.{Found}
 use Rattle.pool_journal.specs.Stops.{with_one}
 use Rattle.desk_model.specs.declared.site.Site.{Site}
-use Rattle.desk_model.specs.State.{State, Image, Stored, durable}
+use Rattle.desk_model.specs.State.{State, durable}
 use Rattle.desk_model.specs.Step.{step}
 use Rattle.site_desk.specs.Stands.{apply, Standing, Between}
 use Rattle.site_desk.specs.Known.{built, Remembers, SameKnown}
-use Rattle.site_desk.specs.Desk.{desk_state, KeptState, KeptMore, Kept, IsDone, Answered, Moved, reached, Commits}
-use Rattle.site_desk.specs.Steps.{Steps, IsReady, IsRefused, IsStepRefusal}
+use Rattle.site_desk.specs.Desk.{desk_state, KeptState, KeptMore, Kept, IsDone, reached, Commits}
+use Rattle.site_desk.specs.Steps.{Steps, IsReady, IsRefused}
 use Rattle.site_desk.specs.declared.known.Known.{Known}
 use Rattle.site_desk.proofs.Standings.{standing, nothing_done}
 use Rattle.site_desk.proofs.States.{state_is}
@@ -41,7 +41,7 @@ module _ (disk : Disk) (end : ℕ) (known : Known) (kept : Kept disk end known) 
   }
 
   pub refused_steps : (request : Request) (payload : List ℕ) (moment : ℕ) (a : Answer) (known' : Known) → SameKnown known known' → IsRefused start request payload moment a → Steps (desk_state disk known.site) request payload moment a disk disk (desk_state disk known'.site)
-  refused_steps request payload moment a known' same refused = 
+  refused_steps request payload moment a known' same refused =
       subst (λ (site : Site). Steps (desk_state disk known.site) request payload moment a disk disk (desk_state disk site)) (sym same.site)
       (subst (λ (s : State). Steps s request payload moment a disk disk s) (sym (state_is disk end known kept)) (record {
         answers = refused.0;

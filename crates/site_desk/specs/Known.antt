@@ -1,9 +1,7 @@
 -- What a desk knows of the records of its journal.
 use Rattle.std.specs.Prelude.{◌≡◌, ◌≤◌, ℕ, Bool, true, false, List, [], ◌∷◌, length, codes, Option, Some, None, Ok, Err, Contains}
-use Rattle.std.specs.List.{All}
 use Rattle.site_types.specs.declared.answer.Answer.{Answer}
 use Rattle.site_types.specs.declared.id.BackupId.{BackupId}
-use Rattle.site_types.specs.declared.image.ImageRecord.{ImageRecord}
 use Rattle.site_types.specs.declared.request.Request.{Request}
 use Rattle.pool_journal.specs.Records.{Found}
 use Rattle.policy_book.specs.Lists.{has}

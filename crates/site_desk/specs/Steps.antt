@@ -1,14 +1,14 @@
 -- What a step promises, and what is made ready before it writes.
-use Rattle.std.specs.Prelude.{◌≡◌, ◌≢◌, ℕ, ◌+◌, ◌^◌, ◌<◌, Bool, true, false, List, length, Some}
+use Rattle.std.specs.Prelude.{◌≡◌, ◌≢◌, ◌⊎◌, ℕ, ◌+◌, ◌^◌, ◌<◌, Bool, true, false, List, length, Option, Some, None, Result, Ok, Err, Contains}
 use Rattle.site_types.specs.declared.answer.Answer.{Answer}
-use Rattle.site_types.specs.declared.answer.Answer.TheVariants.{Done, DiskFault}
+use Rattle.site_types.specs.declared.answer.Answer.TheVariants.{Done, OutOfMemory, DiskFault}
 use Rattle.site_types.specs.declared.request.Request.{Request}
 use Rattle.site_types.specs.declared.request.Request.TheVariants.{Backup, Restore}
 use Rattle.vault_disk.specs.Disk.{Disk}
 use Rattle.pool_journal.specs.Entries.{Record, spelled_entry, IsStaged}
 use Rattle.pool_journal.specs.Records.{Found}
 use Rattle.pool_journal.specs.Stops.{with_one}
-use Rattle.desk_model.specs.State.{State, Image, Stored}
+use Rattle.desk_model.specs.State.{State, Image, Stored, entries}
 use Rattle.desk_model.specs.Step.{step}
 use Rattle.site_desk.specs.Stands.{apply, Standing, Between}
 use Rattle.site_desk.specs.Known.{built, Remembers}
@@ -30,6 +30,28 @@ is_written request = true
 abbrev pub is_backup : Request → Bool
 is_backup (Backup client policy schedule start) = true
 is_backup request = false
+
+-- requests were carried out over these images, and of the state that they make this is known; or the first that is refused was answered so
+abbrev pub AreSet : Result State Answer → List Image → Known → Option Answer → Type 0
+AreSet result images known None = (stored : List Stored) × (result ≡ Ok (built known.site images stored))
+AreSet result images known (Some refusal) = result ≡ Err refusal
+
+-- all were carried out, or none: then the first that is refused was answered, or there was no memory
+abbrev pub AreAllSet : Result State Answer → List Image → Known → Result (Unit {0}) Answer → Type 0
+AreAllSet result images known (Ok done) = (stored : List Stored) × (result ≡ Ok (built known.site images stored))
+AreAllSet result images known (Err answer) = (answer ≡ OutOfMemory) ⊎ (result ≡ Err answer)
+
+-- images that the catalogue may have the records of
+pub record AreListed (known : Known) (images : List Image) : Type 0 where
+  pub listed : entries images ≡ known.catalogue
+  pub sized : (i : Image) → Contains images i → i.entry.length ≡ length i.bytes
+
+-- a record takes a state to the one that is known now, in which it stands behind these
+pub record IsTaken (records : List Found) (end : ℕ) (s : State) (row : Record) (known : Known) : Type 0 where
+  pub images : List Image
+  pub stored : List Stored
+  pub applies : apply s row ≡ Some (built known.site images stored)
+  pub remembers : end + 5 + length (spelled_entry row.entry) < 2 ^ 63 → Remembers (with_one records end row) known images
 
 -- a record is ready to be written behind these, which takes a state to the one that is known now
 pub record IsReady (records : List Found) (end : ℕ) (s : State) (request : Request) (payload : List ℕ) (moment : ℕ) (staged body : List ℕ) (known : Known) : Type 0 where

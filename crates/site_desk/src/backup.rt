@@ -1,15 +1,94 @@
 // A backup at once.
-ghost use Rattle.std.specs.Prelude.{◌≡◌, ◌≤◌, ℕ, List, true, length, IfOk, IfErr, OnErr};
-ghost use Rattle.site_types.specs.Limits.{last_moment, payload_limit};
+ghost use Rattle.std.specs.Prelude.{◌≡◌, ◌≢◌, ◌<◌, ◌≤◌, ◌^◌, ℕ, List, true, false, length, IfOk, OnOk, OnErr, IfErr};
+ghost use Rattle.site_types.specs.Limits.{last_moment};
+ghost use Rattle.site_types.specs.declared.image.Base.TheVariants as base;
+ghost use Rattle.pool_journal.specs.declared.entry.Entry.TheVariants as entry;
+ghost use Rattle.pool_journal.specs.Entries.{IsStaged, body_of};
 ghost use Rattle.pool_journal.specs.Records.{Found};
 ghost use Rattle.desk_model.specs.State.{Image, Stored};
 ghost use Rattle.site_desk.specs.Known.{built, Remembers, SameKnown};
-ghost use Rattle.site_desk.specs.Steps.{is_backup, IsReady, IsRefused, IsStepRefusal};
+ghost use Rattle.site_desk.specs.Desk.{IsDone, whole_of};
+ghost use Rattle.site_desk.specs.Steps.{is_backup, IsReady, IsRefused, IsStepRefusal, IsTaken};
 
+use crate::extents::next_extent;
 use crate::known::Known;
+use crate::lines::RECORD_END;
 use crate::prepare::Ready;
-use site_types::{Answer, Request};
-use std::alloc::Global;
+use crate::replay::take_image;
+use desk_rules::{Change, Decision, JobBody, decide};
+use pool_journal::{Entry, Journal, Staged, WholeImage};
+use site_types::{Answer, NoMemory, Request};
+use std::alloc::{AllocError, Global};
+
+// What a record has of an image before its bytes, without its names.
+const WITHOUT_NAMES: u64 = 44;
+
+fn whole_of(body: JobBody, moment: u64) -> WholeImage
+    ensures { result ≡ whole_of body moment }
+{
+    let JobBody::Backup {
+        id,
+        policy,
+        schedule,
+        kind,
+        base,
+        lifecycle,
+        version,
+        length,
+    } = body;
+    WholeImage {
+        id,
+        policy,
+        schedule,
+        kind,
+        base,
+        lifecycle,
+        version,
+        completed: moment,
+        length,
+    }
+}
+
+fn is_writable(image: &WholeImage, payload: &[u8]) -> bool
+    ensures { result ≡ true → length (body_of (record { entry = entry.WholeImage image.now; bytes = payload.now })) < 2 ^ 32 }
+{
+    let names = image.id.client.bytes().len()
+        + image.policy.bytes().len()
+        + image.schedule.bytes().len()
+        + image.lifecycle.bytes().len();
+    (WITHOUT_NAMES + names as u64).saturating_add(payload.len() as u64) < RECORD_END
+}
+
+// Takes all memory of an image's record, and takes the image in. An image that nothing refuses fits wherever the vault tells what
+// it holds. One that doesn't fit is never recorded, since no opening would take it.
+fn seal(
+    alloc: Global,
+    known: &mut Known,
+    end: u64,
+    image: WholeImage,
+    payload: &[u8],
+) -> Result<Staged, NoMemory>
+    requires length { image.length ≡ length payload.now }
+    requires base { image.base ≢ base.Time 0 }
+    ensures staged { IfOk result (IsStaged (record { entry = entry.WholeImage image; bytes = payload.now })) }
+    ensures taken { (records : List Found) (images : List Image) (stored : List Stored) → Remembers records known.old images → OnOk result (IsTaken records end (built known.old.site images stored) (record { entry = entry.WholeImage image; bytes = payload.now }) known.new) }
+    ensures site { OnErr result (known.new.site ≡ known.old.site) }
+    ensures unchanged { (records : List Found) (images : List Image) → Remembers records known.old images → OnErr result (SameKnown known.old known.new) }
+{
+    if !is_writable(&image, payload) {
+        return Err(AllocError);
+    }
+    let entry = Entry::WholeImage(image);
+    let staged = Journal::stage(alloc, &entry, payload)?;
+    let extent = next_extent(end, &entry, payload);
+    let Entry::WholeImage(image) = &entry else {
+        unreachable!()
+    };
+    if !take_image(alloc, known, image, extent)? {
+        return Err(AllocError);
+    }
+    Ok(staged)
+}
 
 /// Makes ready the record of a backup.
 pub fn prepare_backup(
@@ -21,7 +100,6 @@ pub fn prepare_backup(
     moment: u64,
 ) -> Result<Ready, Answer>
     requires backup { is_backup request.now ≡ true }
-    requires payload { length payload.now ≤ payload_limit }
     requires moment { moment ≤ last_moment }
     ensures ready { (records : List Found) (images : List Image) (stored : List Stored) → Remembers records known.old images → IfOk result (λ r. IsReady records end (built known.old.site images stored) request.now payload.now moment r.staged r.body known.new) }
     ensures refused { (records : List Found) (images : List Image) (stored : List Stored) → Remembers records known.old images → IfErr result (IsRefused (built known.old.site images stored) request.now payload.now moment) }
@@ -29,11 +107,19 @@ pub fn prepare_backup(
     ensures site { OnErr result (known.new.site ≡ known.old.site) }
     ensures unchanged { (records : List Found) (images : List Image) → Remembers records known.old images → OnErr result (SameKnown known.old known.new) }
 {
-    let _ = alloc;
-    let _ = known;
-    let _ = end;
-    let _ = request;
-    let _ = payload;
-    let _ = moment;
-    Err(Answer::OutOfMemory)
+    let size = payload.len() as u64;
+    let Ok(decision) = decide(alloc, &known.site, &known.catalogue, request, size, moment) else {
+        return Err(Answer::OutOfMemory);
+    };
+    let Decision { answer, change } = decision;
+    let Change::SealNow { body } = change else {
+        return Err(answer);
+    };
+    let Answer::Done { body: line } = answer else {
+        unreachable!()
+    };
+    match seal(alloc, known, end, whole_of(body, moment), payload) {
+        Ok(staged) => Ok(Ready { staged, body: line }),
+        Err(_) => Err(Answer::OutOfMemory),
+    }
 }

@@ -44,7 +44,12 @@ impl Known {
 
     /// Takes in an image that isn't there: its client's last id time is raised, and a client that isn't there is added. Without
     /// memory all stays as it was.
-    pub fn admit(&mut self, alloc: Global, image: ImageRecord, extent: Extent) -> Result<(), NoMemory>
+    pub fn admit(
+        &mut self,
+        alloc: Global,
+        image: ImageRecord,
+        extent: Extent,
+    ) -> Result<(), NoMemory>
         requires new { record_named image.id self.old.catalogue ≡ None }
         ensures site { OnOk result (self.new.site ≡ record self.old.site { book = client_sealed image.id.client image.id.time self.old.site.book }) }
         ensures catalogue { OnOk result (self.new.catalogue ≡ with_record image self.old.catalogue) }

@@ -7,9 +7,11 @@ use pool_journal::{Entry, Journal, Staged};
 use site_types::{ListOf, NoMemory, Request, Text};
 use std::alloc::{AllocError, Global};
 
-// The length of a line fits into two bytes, and that of a record into four.
+// The length of a line fits into two bytes.
 const LINE_END: u64 = 65_536;
-const RECORD_END: u64 = 4_294_967_296;
+
+/// The length of a record's body fits into four bytes.
+pub const RECORD_END: u64 = 4_294_967_296;
 
 // The kind of a settings record, and the number of its lines.
 const BEFORE_LINES: u64 = 5;
@@ -40,8 +42,8 @@ fn are_writable(lines: &[Text]) -> bool
     true
 }
 
-/// Takes all memory of a settings record with these lines. No site file is so long that its lines pass what a record may have,
-/// nor is a request; they would be refused here.
+/// Takes all memory of a settings record with these lines. No line of a formed request comes near the lengths that are refused
+/// here, nor do those of a site file together.
 pub fn stage_lines(alloc: Global, lines: Vec<Text>) -> Result<Staged, NoMemory>
     ensures { IfOk result (IsStaged (record { entry = Entry.Settings lines.items; bytes = [] })) }
 {

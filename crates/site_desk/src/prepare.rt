@@ -1,6 +1,6 @@
 // What a request needs before its record is written: all of its memory, and what is known once it is done.
-ghost use Rattle.std.specs.Prelude.{◌≡◌, ◌≤◌, ℕ, List, true, length, IfOk, IfErr, OnErr};
-ghost use Rattle.site_types.specs.Limits.{last_moment, payload_limit};
+ghost use Rattle.std.specs.Prelude.{◌≡◌, ◌≤◌, List, true, IfOk, IfErr, OnErr};
+ghost use Rattle.site_types.specs.Limits.{last_moment};
 ghost use Rattle.site_types.specs.Lines.{IsFormed};
 ghost use Rattle.pool_journal.specs.Records.{Found};
 ghost use Rattle.desk_model.specs.State.{Image, Stored};
@@ -34,7 +34,6 @@ pub fn prepare(
 ) -> Result<Ready, Answer>
     requires written { is_written request.now ≡ true }
     requires formed { IsFormed request.now }
-    requires payload { length payload.now ≤ payload_limit }
     requires moment { moment ≤ last_moment }
     ensures ready { (records : List Found) (images : List Image) (stored : List Stored) → Remembers records known.old images → IfOk result (λ r. IsReady records end (built known.old.site images stored) request.now payload.now moment r.staged r.body known.new) }
     ensures refused { (records : List Found) (images : List Image) (stored : List Stored) → Remembers records known.old images → IfErr result (IsRefused (built known.old.site images stored) request.now payload.now moment) }

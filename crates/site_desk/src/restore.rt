@@ -10,13 +10,11 @@ ghost use Rattle.site_desk.specs.Extents.{Catalogued, extent_of};
 ghost use Rattle.site_desk.specs.Restores.{IsOr, IsRefusedAs, IsRestoreRefusal};
 
 use crate::extents::{Extent, Extents};
-use site_types::{Answer, BackupId, Text};
+use site_types::{Answer, BackupId, PAYLOAD_LIMIT, Text};
 use std::alloc::Global;
 
 // The number of the one copy of an image, which is its primary one.
 const FIRST_COPY: u8 = 1;
-
-const PAYLOAD_LIMIT: u64 = 67_108_864;
 
 fn unknown_image(alloc: Global, id: &BackupId) -> Answer
     ensures or { IsOr (Answer.Unknown (id_text id.now)) result }

@@ -21,11 +21,7 @@ fn zone_of_rule(alloc: Global, rule: &Text) -> Result<Zone, NoMemory>
 
 /// The zone of a rule, or else of an offset. A request that was read has one that is a zone's; without one there is no memory
 /// to answer otherwise.
-pub fn zone_given(
-    alloc: Global,
-    rule: Option<&Text>,
-    offset: Option<i32>,
-) -> Result<Zone, NoMemory>
+pub fn zone_given(alloc: Global, rule: Option<&Text>, offset: Option<i32>) -> Result<Zone, NoMemory>
     ensures { IfOk result (λ zone. zone ≡ zone_given (option_copied rule.entry) offset) }
 {
     let Some(rule) = rule else {

@@ -1,4 +1,4 @@
-use Rattle.std.proofs.Common.{◌∙◌, ap, sym}
+use Rattle.std.proofs.Common.{◌∙◌}
 use Rattle.site_desk.proofs.Changing.{refusal_plain, refusal_same, refused_here, ready_here}
 use Rattle.site_desk.proofs.change.prepare_change.Goals as goal
 

@@ -1,4 +1,4 @@
-use Rattle.std.proofs.Common.{◌≡◌, ◌∙◌, [], refl, sym}
+use Rattle.std.proofs.Common.{◌∙◌, [], refl, sym}
 use Rattle.site_desk.specs.Known.{built}
 use Rattle.site_desk.proofs.SiteChanges.{state_of, set_so, refused_so, remembered_so}
 use Rattle.site_desk.proofs.known.Known.set.Goals as goal

@@ -1,0 +1,241 @@
+-- The requests of a site file change the site.
+use Rattle.std.proofs.Common.{◌≡◌, ◌+◌, ℕ, zero, suc, ℤ, Bool, true, false, List, [], ◌∷◌, ◌++◌, length, Some, None, Ok, Err, refl, subst, arith}
+use Rattle.std.specs.Prelude.{Option, Result, All, if◌then◌else◌, nat_lt, codes, unwrap_or, option_map}
+use Rattle.std.specs.List.{AllPass}
+use Rattle.std.specs.Option.{option_and_then}
+use Rattle.std.specs.Result.{result_ok}
+use Rattle.toml.specs.Data.{Data, string, integer, float, boolean, datetime, array, table, Items, no_items, item, Members, get_member}
+use Rattle.toml.specs.Parse.{parse_document}
+use Rattle.site_types.specs.declared.calendar.CalendarItem.{CalendarItem}
+use Rattle.site_types.specs.declared.image.Kind.{Kind}
+use Rattle.site_types.specs.declared.request.Request.{Request}
+use Rattle.site_types.specs.declared.request.Request.TheVariants.{UnitAdd, ClientAdd, PolicyClientAdd, PolicySelect, ScheduleAdd, ZoneSet}
+use Rattle.site_types.specs.declared.schedule.PolicyType.{PolicyType}
+use Rattle.site_types.specs.declared.window.Windows.{Windows}
+use Rattle.site_types.specs.Keys.{among, name_of, first_bad}
+use Rattle.site_types.specs.Numbers.{number_between}
+use Rattle.site_types.specs.Requests as requests
+use Rattle.policy_book.specs.SiteFile as file
+use Rattle.policy_book.specs.SiteFile.{Line}
+use Rattle.desk_model.specs.Settings.{is_setting}
+
+-- one fact of each element
+abbrev pub Each : {X : Type 0} → (X → Type 0) → List X → Type 0
+Each P [] = Unit {0}
+Each P (x ∷ xs) = P x × Each P xs
+
+pub each-all : {X : Type 0} (P : X → Type 0) (xs : List X) → Each P xs → All P xs
+each-all P [] each k d lt = absurd (omega (arith, lt))
+each-all P (x ∷ xs) each zero d lt = each.0
+each-all P (x ∷ xs) each (suc k) d lt = each-all P xs each.1 k d (omega (arith, lt))
+
+pub all-each : {X : Type 0} (P : X → Type 0) (xs : List X) → All P xs → Each P xs
+all-each P [] all = tt
+all-each P (x ∷ xs) all = (all zero x (omega arith), all-each P xs (λ k d lt. all (suc k) d (omega (arith, lt))))
+
+-- What is read of the words of a form.
+
+abbrev IsSetting : Request → Type 0
+IsSetting request = is_setting request ≡ true
+
+abbrev OfSetting : Option Request → Type 0
+OfSetting None = Unit {0}
+OfSetting (Some request) = IsSetting request
+
+abbrev ReadsSetting : Result Request ℕ → Type 0
+ReadsSetting (Ok request) = IsSetting request
+ReadsSetting (Err index) = Unit {0}
+
+read_so : (bad : Option ℕ) (made : Option Request) (count : ℕ) → OfSetting made → ReadsSetting (requests.unless_bad bad made count)
+read_so (Some index) made count setting = tt
+read_so None None count setting = tt
+read_so None (Some request) count setting = setting
+
+abbrev IsLine : Line → Type 0
+IsLine line = ReadsSetting (requests.read_words line)
+
+unit_add_so : (name : Option (List ℕ)) (capacity segment fragment slots high low : Option ℕ) → OfSetting (requests.unit_add_of name capacity segment fragment slots high low)
+unit_add_so None capacity segment fragment slots high low = tt
+unit_add_so (Some name) None segment fragment slots high low = tt
+unit_add_so (Some name) (Some capacity) segment fragment slots high low = at (nat_lt (unwrap_or low 80) (unwrap_or high 98))
+  where
+    at : (b : Bool) → OfSetting (if b then Some (UnitAdd name capacity segment fragment slots high low) else None)
+    at true = refl
+    at false = tt
+
+named_so : (request : List ℕ → Request) (name : Option (List ℕ)) → ((name : List ℕ) → IsSetting (request name)) → OfSetting (requests.named_of request name)
+named_so request None setting = tt
+named_so request (Some name) setting = setting name
+
+pair_so : (request : List ℕ → List ℕ → Request) (first second : Option (List ℕ)) → ((first second : List ℕ) → IsSetting (request first second)) → OfSetting (requests.pair_of request first second)
+pair_so request None second setting = tt
+pair_so request (Some first) None setting = tt
+pair_so request (Some first) (Some second) setting = setting first second
+
+policy_add_so : (policy : Option (List ℕ)) (policy_type : Option PolicyType) (lifecycle : Option (List ℕ)) → OfSetting (requests.policy_add_of policy policy_type lifecycle)
+policy_add_so None policy_type lifecycle = tt
+policy_add_so (Some policy) None lifecycle = tt
+policy_add_so (Some policy) (Some policy_type) None = tt
+policy_add_so (Some policy) (Some policy_type) (Some lifecycle) = refl
+
+schedule_so : (policy schedule : Option (List ℕ)) (kind : Option Kind) (frequency : Option ℕ) (calendar : Option (List CalendarItem)) (windows : Option Windows) → OfSetting (requests.schedule_of ScheduleAdd policy schedule kind frequency calendar windows)
+schedule_so None schedule kind frequency calendar windows = tt
+schedule_so (Some policy) None kind frequency calendar windows = tt
+schedule_so (Some policy) (Some schedule) None frequency calendar windows = tt
+schedule_so (Some policy) (Some schedule) (Some kind) frequency calendar None = tt
+schedule_so (Some policy) (Some schedule) (Some kind) frequency calendar (Some windows) = at (requests.is_one frequency calendar)
+  where
+    at : (b : Bool) → OfSetting (if b then Some (ScheduleAdd policy schedule kind frequency calendar windows) else None)
+    at true = refl
+    at false = tt
+
+zone_so : (rule : Option (List ℕ)) (offset : Option ℤ) → OfSetting (requests.zone_of rule offset)
+zone_so rule offset = at (requests.is_one rule offset)
+  where
+    at : (b : Bool) → OfSetting (if b then Some (ZoneSet rule offset) else None)
+    at true = refl
+    at false = tt
+
+zone_line : (words : Line) → IsLine (codes "bpzone" ∷ codes "set" ∷ words)
+zone_line words = read_so (first_bad requests.zone_keys [] 2 words) (requests.zone_made words) (2 + length words) (zone_so _ _)
+
+unit_line : (words : Line) → IsLine (codes "unit" ∷ codes "add" ∷ words)
+unit_line words = read_so (first_bad requests.unit_add_keys [] 2 words) (requests.unit_add_made words) (2 + length words) (unit_add_so (among name_of (codes "name") words) (among (number_between 1 1125899906842624) (codes "capacity") words) (among (number_between 16 131072) (codes "segment") words) (among (number_between 1 1048576) (codes "fragment") words)
+    (among (number_between 1 16777216) (codes "slots") words) (among (number_between 1 100) (codes "high") words) (among (number_between 0 99) (codes "low") words))
+
+client_line : (words : Line) → IsLine (codes "client" ∷ codes "add" ∷ words)
+client_line words = read_so (first_bad (requests.name_key (codes "name") ∷ []) [] 2 words) (requests.named_made ClientAdd (codes "name") words) (2 + length words) (named_so ClientAdd _ (λ name. refl))
+
+policy_line : (words : Line) → IsLine (codes "bppolicynew" ∷ codes "add" ∷ words)
+policy_line words = read_so (first_bad requests.policy_add_keys [] 2 words) (requests.policy_add_made words) (2 + length words) (policy_add_so _ _ _)
+
+listed_line : (words : Line) → IsLine (codes "bppolicynew" ∷ codes "client-add" ∷ words)
+listed_line words =
+    read_so (first_bad (requests.name_key (codes "policy") ∷ requests.name_key (codes "client") ∷ []) [] 2 words) (requests.pair_made PolicyClientAdd (codes "policy") (codes "client") words) (2 + length words) (pair_so PolicyClientAdd _ _ (λ policy client. refl))
+
+selected_line : (words : Line) → IsLine (codes "bppolicynew" ∷ codes "select" ∷ words)
+selected_line words = read_so (first_bad (requests.name_key (codes "policy") ∷ requests.path_key ∷ []) [] 2 words) (requests.selection_made PolicySelect words) (2 + length words) (pair_so PolicySelect _ _ (λ policy path. refl))
+
+schedule_line : (words : Line) → IsLine (codes "bpplsched" ∷ codes "add" ∷ words)
+schedule_line words = read_so (first_bad requests.schedule_keys [] 2 words) (requests.schedule_made ScheduleAdd words) (2 + length words) (schedule_so _ _ _ _ _ _)
+
+-- The lines of a file.
+
+abbrev OfLines : Option (List Line) → Type 0
+OfLines None = Unit {0}
+OfLines (Some lines) = Each IsLine lines
+
+both_so : (xs ys : List Line) → Each IsLine xs → Each IsLine ys → Each IsLine (xs ++ ys)
+both_so [] ys front back = back
+both_so (x ∷ xs) ys front back = (front.0, both_so xs ys front.1 back)
+
+joined_so : (a b : Option (List Line)) → OfLines a → OfLines b → OfLines (file.joined a b)
+joined_so None b front back = tt
+joined_so (Some xs) None front back = tt
+joined_so (Some xs) (Some ys) front back = both_so xs ys front back
+
+request_so : (form : Line) (keys parts : List (List ℕ)) (members : Members) → ((words : Line) → IsLine (form ++ words)) → OfLines (file.one (file.request_of form keys parts members))
+request_so form keys parts members line = at (file.words_of keys parts members)
+  where
+    at : (o : Option Line) → OfLines (file.one (option_map (λ words. form ++ words) o))
+    at None = tt
+    at (Some words) = (line words, tt)
+
+items_so : (f : Data → Option (List Line)) (items : Items) → ((value : Data) → OfLines (f value)) → OfLines (file.of_items f items)
+items_so f no_items each = tt
+items_so f (item value items) each = joined_so (f value) (file.of_items f items) (each value) (items_so f items each)
+
+array_so : (f : Data → Option (List Line)) (value : Option Data) → ((value : Data) → OfLines (f value)) → OfLines (file.of_array f value)
+array_so f value each = at (file.array_at value)
+  where
+    at : (o : Option Items) → OfLines (option_and_then (file.of_items f) o)
+    at None = tt
+    at (Some items) = items_so f items each
+
+table_so : (f : Members → Option (List Line)) (value : Data) → ((members : Members) → OfLines (f members)) → OfLines (file.table_with f value)
+table_so f (table members) each = each members
+table_so f (string text) each = tt
+table_so f (integer number) each = tt
+table_so f (float number) each = tt
+table_so f (boolean b) each = tt
+table_so f (datetime d) each = tt
+table_so f (array items) each = tt
+
+tables_so : (key : List ℕ) (f : Members → Option (List Line)) (members : Members) → ((members : Members) → OfLines (f members)) → OfLines (file.tables_at key f members)
+tables_so key f members each = array_so (file.table_with f) (get_member key members) (λ value. table_so f value each)
+
+word_so : (form : Line) (word : List ℕ → List ℕ) (value : Data) → ((text : List ℕ) → IsLine (form ++ text ∷ [])) → OfLines (file.with_word form word value)
+word_so form word value line = at (file.text_of value)
+  where
+    at : (o : Option (List ℕ)) → OfLines (option_map (λ text. (form ++ word text ∷ []) ∷ []) o)
+    at None = tt
+    at (Some text) = (line (word text), tt)
+
+zones_so : (value : Option Data) → OfLines (file.zone_lines value)
+zones_so None = tt
+zones_so (Some (table members)) = request_so (codes "bpzone" ∷ codes "set" ∷ []) (codes "rule" ∷ codes "offset" ∷ []) [] members zone_line
+zones_so (Some (string text)) = tt
+zones_so (Some (integer number)) = tt
+zones_so (Some (float number)) = tt
+zones_so (Some (boolean b)) = tt
+zones_so (Some (datetime d)) = tt
+zones_so (Some (array items)) = tt
+
+parts_so : (members : Members) (policy : List ℕ) → OfLines (file.parts_of members policy)
+parts_so members policy =
+    joined_so (file.clients_of members policy) (file.joined (file.selections_of members policy) (file.schedules_of members policy))
+    (array_so _ (get_member (codes "clients") members) (λ value. word_so (file.on_policy (codes "bppolicynew") (codes "client-add") policy) file.client_word value (λ text. listed_line (file.word_of (codes "policy") policy ∷ text ∷ []))))
+    (joined_so (file.selections_of members policy) (file.schedules_of members policy)
+    (array_so _ (get_member (codes "selections") members) (λ value. word_so (file.on_policy (codes "bppolicynew") (codes "select") policy) file.path_word value (λ text. selected_line (file.word_of (codes "policy") policy ∷ text ∷ []))))
+    (tables_so (codes "schedule") (file.schedule_line policy) members (λ inner. request_so (file.on_policy (codes "bpplsched") (codes "add") policy) (codes "schedule" ∷ codes "kind" ∷ codes "frequency" ∷ codes "calendar" ∷ codes "windows" ∷ []) [] inner (λ words. schedule_line (file.word_of (codes "policy") policy ∷ words)))))
+
+policy_so : (members : Members) → OfLines (file.policy_lines members)
+policy_so members = joined_so (file.policy_line members) (option_and_then (file.parts_of members) (file.policy_name members)) (request_so (codes "bppolicynew" ∷ codes "add" ∷ []) (codes "policy" ∷ codes "type" ∷ codes "lifecycle" ∷ []) file.policy_parts members policy_line) (at (file.policy_name members))
+  where
+    at : (o : Option (List ℕ)) → OfLines (option_and_then (file.parts_of members) o)
+    at None = tt
+    at (Some policy) = parts_so members policy
+
+all_so : (members : Members) → OfLines (file.all_lines members)
+all_so members =
+    let policies = tables_so (codes "policy") file.policy_lines members policy_so in
+    let clients = tables_so (codes "client") file.client_line members (λ inner. request_so (codes "client" ∷ codes "add" ∷ []) (codes "name" ∷ []) [] inner client_line) in
+    let units = tables_so (codes "unit") file.unit_line members (λ inner. request_so (codes "unit" ∷ codes "add" ∷ []) (codes "name" ∷ codes "capacity" ∷ codes "segment" ∷ codes "fragment" ∷ codes "slots" ∷ codes "high" ∷ codes "low" ∷ []) [] inner unit_line) in
+    joined_so (file.zone_lines (get_member (codes "zone") members)) _ (zones_so (get_member (codes "zone") members))
+    (joined_so (file.tables_at (codes "unit") file.unit_line members) _ units (joined_so (file.tables_at (codes "client") file.client_line members) _ clients policies))
+
+file_so : (members : Members) → OfLines (file.file_lines members)
+file_so members = at (file.has_keys (codes "zone" ∷ codes "unit" ∷ codes "client" ∷ codes "policy" ∷ []) members)
+  where
+    at : (b : Bool) → OfLines (if b then file.all_lines members else None)
+    at true = all_so members
+    at false = tt
+
+-- Their requests.
+
+abbrev OfSettings : Option (List Request) → Type 0
+OfSettings None = Unit {0}
+OfSettings (Some requests) = Each IsSetting requests
+
+lines_so : (lines : List Line) → Each IsLine lines → OfSettings (file.requests_of lines)
+lines_so [] all = tt
+lines_so (line ∷ lines) all = at (requests.read_words line) (file.requests_of lines) all.0 (lines_so lines all.1)
+  where
+    at : (r : Result Request ℕ) (o : Option (List Request)) → ReadsSetting r → OfSettings o → OfSettings (option_and_then (λ request. option_map (λ requests. request ∷ requests) o) (result_ok r))
+    at (Err index) o first later = tt
+    at (Ok request) None first later = tt
+    at (Ok request) (Some requests) first later = (first, later)
+
+site_so : (bytes : List ℕ) → OfSettings (file.site_requests bytes)
+site_so bytes = at (parse_document bytes)
+  where
+    lines : (o : Option (List Line)) → OfLines o → OfSettings (option_and_then file.requests_of o)
+    lines None all = tt
+    lines (Some ls) all = lines_so ls all
+
+    at : (o : Option Members) → OfSettings (option_and_then file.requests_of (option_and_then file.file_lines o))
+    at None = tt
+    at (Some members) = lines (file.file_lines members) (file_so members)
+
+pub site_settings : (bytes : List ℕ) (requests : List Request) → file.site_requests bytes ≡ Some requests → AllPass is_setting requests
+site_settings bytes requests is = each-all IsSetting requests (subst OfSettings is (site_so bytes))
