@@ -310,7 +310,7 @@ class Inputs(DeskTest):
 def site_files(document):
     """Returns the site files of a document: the blocks between fences, or behind four spaces, that have a table of an array."""
     blocks = re.findall(r"^```[^\n]*\n(.*?)^```", document, re.DOTALL | re.MULTILINE)
-    blocks += [re.sub(r"^    ", "", block, flags=re.MULTILINE) for block in re.findall(r"(?:^    [^\n]*\n|^\n(?=    ))+", document, re.MULTILINE)]
+    blocks += [re.sub(r"^    ", "", block, flags=re.MULTILINE).lstrip("\n") for block in re.findall(r"(?:^    [^\n]*\n|^\n(?=    ))+", document, re.MULTILINE)]
     return [block for block in blocks if re.match(r"\s*(#[^\n]*\s+)*\[", block) and re.search(r"^\[\[\w+\]\]", block, re.MULTILINE)]
 
 
