@@ -11,7 +11,7 @@ from rows import line_of
 from test_trace import Step, Traced, joined
 
 # Policies, each with its clients, of which a load has so many.
-CLIENTS = 24
+CLIENTS = 16
 
 
 def name_of(turn):

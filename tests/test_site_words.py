@@ -83,7 +83,7 @@ BAD = [
     ("unit add", 2),
     ("unit add name=t", 3),
     ("unit add capacity=1", 3),
-    ("unit add name=t segment=16 fragment=1 slots=1 high=2 low=1", 7),
+    ("unit add name=t segment=16 fragment=1 slots=1 high=2 low=1", 8),
     ("unit change", 2),
     ("unit change capacity=1", 3),
     ("client add", 2),
@@ -284,7 +284,7 @@ class Words(RowsTest):
         answer = one.run("session", payload=text)
         self.assertEqual(answer.status, 0)
         found = replies_of(answer.out)
-        self.assertEqual([it for it in zip(said, found) if it[1] != replies[said.index(it[0])]], [])
+        self.assertEqual([it for it in zip(said, replies, found) if it[1] != it[2]], [])
         self.assertEqual(len(found), len(replies))
         self.assertEqual(one.bytes(), vault.EMPTY)
 
