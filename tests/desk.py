@@ -16,7 +16,7 @@ ROOT = Path(__file__).resolve().parent.parent
 PROGRAM = Path(os.environ.get("BPDESK_PROGRAM", ROOT / "crates/bpdesk/out/bpdesk"))
 
 # The forms that stand: the tests of each are run.
-FORMS = os.environ.get("BPDESK_FORMS", "bpbackup bprestore session").split()
+FORMS = os.environ.get("BPDESK_FORMS", "bpbackup bprestore session unit client bppolicynew bpplsched bpzone bpload").split()
 
 LATEST = 250_000_000_000
 LONGEST = 67_108_864

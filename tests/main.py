@@ -12,6 +12,13 @@ TESTS_OF = {
     "bpbackup": ["test_backup", "test_opening", "test_faults", "test_processes", "test_trace"],
     "bprestore": ["test_restore"],
     "session": ["test_session", "test_session_stops"],
+    # (the requests that set up a site need one another, so what is tested of one needs all of them)
+    "unit": ["test_site_limits"],
+    "client": ["test_site"],
+    "bppolicynew": ["test_site_words"],
+    "bpplsched": ["test_site_windows"],
+    "bpzone": ["test_site_journal"],
+    "bpload": ["test_site_file", "test_site_stops"],
 }
 
 

@@ -72,8 +72,20 @@ BAD_WORDS = [
 ]
 # Options come with a later request.
 BAD_OPTIONS = [(["--help"], 0), (["--framed"], 0), (["--framed", "bpbackup", "client=a"], 0), (["-x"], 0), (["bpbackup", "--framed", "client=a"], 1)]
-# The forms that come next.
-BAD_UNTIL = {"session": [(["session"], 0), (["@5", "session"], 1)], "bprestore": [(["bprestore", "id=a_5"], 0)]}
+# What is bad until a form stands, or a part of one.
+BAD_UNTIL = {
+    "files": [(["bppolicynew", "add", "policy=p", "type=files", "lifecycle=basic"], 3), (["bprestore", "client=a", "policy=p"], 1)],
+    "job-open": [(["job-open", "client=a"], 0), (["job-feed", "job=1"], 0), (["job-seal", "job=1"], 0), (["bpverify", "id=a_5", "copy=1"], 0)],
+    "nbstl": [
+        (["nbstl", "set", "name=l", "priority=0", "op0=backup,-,disk0,infinite,always"], 0),
+        (["@5", "nbstl", "show", "name=basic"], 1),
+        (["dup-open", "id=a_5", "op=1"], 0),
+        (["nbstlutil", "cancel", "id=a_5"], 0),
+    ],
+    "cleanup": [(["cleanup"], 0), (["@5", "bpexpdate", "id=a_5", "copy=1", "date=0"], 1), (["primary", "id=a_5", "copy=1"], 0)],
+    "crcontrol": [(["crcontrol", "collect", "unit=disk0"], 0), (["restore-open", "id=a_5"], 0)],
+    "bpimagelist": [(["bpimagelist"], 0), (["units"], 0), (["due"], 0), (["@5", "crcontrol", "stats"], 1), (["sim", "seed=1"], 0)],
+}
 
 # One vault, requests in turn: words, payload, status, standard output.
 SESSIONS = {

@@ -100,20 +100,17 @@ class Opening(DeskTest):
             with self.subTest(name):
                 self.is_refused(journal, 16)
 
-    def test_a_record_of_settings(self):
-        none, some = vault.settings(), vault.settings(b"client add name=a")
-        end = bytes([vault.CLOSED])
-        # No request of the site is there yet, so settings have no lines that fit.
-        self.opens(vault.HEADER + vault.gated(none) + vault.record(FIRST) + end, 0, b"alpha_1001\n")
+    def test_a_record_of_settings_outside_the_grammar(self):
+        none, some = vault.body(vault.settings()), vault.body(vault.settings(b"client add name=a"))
         for name, spelled in {
-            "a line": some,
-            "two lines": vault.settings(b"client add name=a", b"client remove name=a"),
-            "an empty line": vault.settings(b""),
             "a byte behind the lines": none + b"x",
-            "fewer lines than their number": some[:-len(b"client add name=a") - 2],
+            "a byte behind a line": some + b"x",
+            "fewer lines than their number": some[: -len(b"client add name=a") - 2],
+            "a line cut short": some[:-1],
             "no number of lines": none[:4],
         }.items():
             with self.subTest(name):
+                end = bytes([vault.CLOSED])
                 self.is_refused(vault.HEADER + vault.gated(spelled) + end, 16)
                 self.is_refused(vault.HEADER + vault.record(FIRST) + vault.gated(spelled) + end, GATE)
 

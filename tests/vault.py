@@ -31,6 +31,12 @@ class Image(NamedTuple):
         return b"%s_%d" % (self.client, self.time)
 
 
+class Settings(NamedTuple):
+    """A record of the requests that changed the site, as their lines."""
+
+    lines: tuple
+
+
 class NotAVault(Exception):
     """The journal is refused, with an offset."""
 
@@ -39,8 +45,21 @@ def string(text):
     return struct.pack(">H", len(text)) + text
 
 
-def body(image):
-    """Returns the body of the record of a whole image."""
+def settings(*lines):
+    """Returns the record of settings with these lines."""
+    return Settings(lines)
+
+
+def body(entry):
+    """Returns the body of a record."""
+    return settings_body(entry) if isinstance(entry, Settings) else image_body(entry)
+
+
+def settings_body(entry):
+    return bytes([SETTINGS]) + struct.pack(">I", len(entry.lines)) + b"".join(map(string, entry.lines))
+
+
+def image_body(image):
     return b"".join(
         [
             bytes([WHOLE_IMAGE]),
@@ -64,26 +83,21 @@ def gated(spelled):
     return bytes([OPEN]) + struct.pack(">I", len(spelled)) + spelled
 
 
-def record(image):
-    """Returns the record of a whole image."""
-    return gated(body(image))
+def record(entry):
+    """Returns the record of a whole image or of settings, with its open gate."""
+    return gated(body(entry))
 
 
-def settings(*lines):
-    """Returns the body of a record of settings."""
-    return bytes([SETTINGS]) + struct.pack(">I", len(lines)) + b"".join(map(string, lines))
+def journal(*entries):
+    """Returns the whole journal of some images and settings, with the closed gate at its end."""
+    return HEADER + b"".join(map(record, entries)) + bytes([CLOSED])
 
 
-def journal(*images):
-    """Returns the whole journal of some images, with the closed gate at its end."""
-    return HEADER + b"".join(map(record, images)) + bytes([CLOSED])
-
-
-def gates(*images):
-    """Returns the offset of the gate of each image's record, and of the closed one at the end."""
+def gates(*entries):
+    """Returns the offset of the gate of each record, and of the closed one at the end."""
     at = [len(HEADER)]
-    for image in images:
-        at.append(at[-1] + len(record(image)))
+    for entry in entries:
+        at.append(at[-1] + len(record(entry)))
     return at
 
 
@@ -105,35 +119,49 @@ class Reader:
 
 
 def read_body(text):
-    """Returns the image that a body spells. It raises ValueError where it spells none."""
+    """Returns the settings or the image that a body spells. It raises ValueError where it spells none."""
     it = Reader(text)
-    if it.number(1) != WHOLE_IMAGE:
+    kind = it.number(1)
+    if kind == SETTINGS:
+        return read_settings(it)
+    if kind == WHOLE_IMAGE:
+        return read_image(it)
+    raise ValueError
+
+
+def read_settings(it):
+    lines = tuple(it.string() for _ in range(it.number(4)))
+    if it.at != len(it.text):
         raise ValueError
+    return Settings(lines)
+
+
+def read_image(it):
     client, time = it.string(), it.number(8)
     policy, schedule, kind, base = it.string(), it.string(), it.number(1), it.number(8)
     lifecycle, version = it.string(), it.number(2)
     completed, length = it.number(8), it.number(8)
     payload = it.take(length)
-    if it.at != len(text) or kind > 2 or not 1 <= time <= LATEST:
+    if it.at != len(it.text) or kind > 2 or not 1 <= time <= LATEST:
         raise ValueError
     return Image(client, time, payload, completed, policy, schedule, kind, base, lifecycle, version)
 
 
 def read(text):
-    """Returns the images of a journal in their order, up to the first gate that is not open."""
+    """Returns the images and settings of a journal in their order, up to the first gate that is not open."""
     if len(text) <= len(EMPTY):
         return []
     for at, byte in enumerate(HEADER):
         if text[at] != byte:
             raise NotAVault(at)
-    images, at = [], len(HEADER)
+    entries, at = [], len(HEADER)
     while text[at] == OPEN:
         end = at + 5 + int.from_bytes(text[at + 1 : at + 5], "big")
         if at + 5 > len(text) or end >= len(text):
             raise NotAVault(at)
         try:
-            images.append(read_body(text[at + 5 : end]))
+            entries.append(read_body(text[at + 5 : end]))
         except ValueError:
             raise NotAVault(at) from None
         at = end
-    return images
+    return entries
