@@ -75,7 +75,6 @@ impl Zone {
         }))
     }
 
-
     /// The seconds that a zone of one offset is ahead of UTC. None exactly for a rule.
     pub fn offset(&self) -> Option<i32>
         ensures { result ≡ fixed_seconds self.now }

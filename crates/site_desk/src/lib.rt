@@ -12,10 +12,10 @@ mod load;
 mod open;
 mod prepare;
 mod record;
-mod restore;
-mod zone;
 mod replay;
+mod restore;
 mod setting;
 mod step;
+mod zone;
 
 pub use desk::Desk;
