@@ -7,7 +7,7 @@ import unittest
 import desk
 
 # The tests of each form, and those that hold whatever forms there are.
-ALWAYS = ["test_launcher"]
+ALWAYS = ["test_launcher", "test_document"]
 TESTS_OF = {
     "bpbackup": ["test_backup", "test_opening", "test_faults", "test_processes", "test_trace"],
     "bprestore": ["test_restore"],

@@ -78,6 +78,22 @@ ROWS = {
         ],
         0,
     ),
+    "requests of the site": (
+        b"client add name=a\nclient add name=a\nclient remove name=b\r\n@5 bpbackup client=a start=scheduled payload=1\nx@6 client remove name=a\n",
+        [frame(0, b""), frame(3, b"a exists\n"), frame(4, b"b unknown\n"), frame(8, b"manual window closed\n"), frame(0, b"")],
+        0,
+    ),
+    "a site file": (
+        b'bpload payload=22\n[[client]]\nname = "a"\nclient add name=a\n@5 bpload\n',
+        [frame(0, b"1\n"), frame(3, b"a exists\n"), frame(0, b"0\n")],
+        0,
+    ),
+    "a payload that is no site file is dropped": (
+        b"bpload payload=12\nclient add a\n@5 bpload payload=1\n=bpload payload=0 x=1\n@5 bpbackup client=b\n",
+        [BAD[1], BAD[0], BAD[1], BAD[1], frame(0, b"b_5\n")],
+        0,
+    ),
+    "an input that ends inside a site file": (b'bpload payload=23\n[[client]]\nname = "a"\n', [BAD[1]], 2),
     "a payload that looks like requests": (
         b"@5 bpbackup client=b payload=26\n@6 bpbackup client=b\n\xa5\x00\xff\n\n@6 bprestore id=b_5\n",
         [frame(0, b"b_5\n"), frame(0, b"@6 bpbackup client=b\n\xa5\x00\xff\n\n")],

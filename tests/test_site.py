@@ -300,10 +300,13 @@ BACKUPS = {
         ("@5 bpbackup client=a policy=p start=scheduled", 8, "S window closed", b"x"),
         ("bpplsched add policy=p schedule=0 kind=full frequency=1 windows=none", 0, ""),
         ("@5 bpbackup client=a policy=p start=scheduled", 8, "0 window closed", b"x"),
+        ("bpplsched add policy=p schedule=z kind=full frequency=1 windows=none", 0, ""),
+        ("@5 bpbackup client=a policy=p start=scheduled", 8, "0 window closed", b"x"),
         ("bpplsched remove policy=p schedule=0", 0, ""),
         ("bpplsched remove policy=p schedule=S", 0, ""),
         ("@5 bpbackup client=a policy=p start=scheduled", 8, "s window closed", b"x"),
         ("bpplsched remove policy=p schedule=s", 0, ""),
+        ("bpplsched remove policy=p schedule=z", 0, ""),
         ("@5 bpbackup client=a policy=p start=scheduled", 4, "p/- unknown", b"x"),
     ],
     "a manual start looks at no window": [

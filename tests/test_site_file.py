@@ -1,8 +1,6 @@
 """`bpload`: a site file's requests, all of them or none, and what is no site file."""
 
 import os
-import re
-import unittest
 
 import desk
 import vault
@@ -299,32 +297,13 @@ class Inputs(DeskTest):
         self.check_quiet(self.desk.run("session", payload=text), 2, frame(2, b"bad request at 1\n"))
         self.assertEqual(self.desk.bytes(), vault.EMPTY)
 
+    def test_a_payload_that_is_too_long(self):
+        self.check_quiet(self.desk.run("bpload", payload=b"#" * (desk.LONGEST + 1)), 15, b"too many bytes: 67108865 of 67108864\n")
+        self.assertEqual(vault.read(self.desk.bytes()), [])
+
     def test_words_behind_it(self):
         """They are bad before any input is read."""
         for words, index in (("bpload site.toml", 1), ("bpload file=site.toml", 1), ("@5 bpload payload=5", 2)):
             with self.subTest(words=words):
                 self.check(self.desk.run(words, payload=OFFICE), 2, b"bad request at %d\n" % index)
         self.assertFalse(self.desk.exists())
-
-
-def site_files(document):
-    """Returns the site files of a document: what its commands write to site.toml."""
-    return [text for _, text in re.findall(r"^cat >site\.toml <<'(\w+)'\n(.*?)^\1$", document, re.DOTALL | re.MULTILINE)]
-
-
-class Document(RowsTest):
-    def test_the_site_file_of_the_operator_s_document_loads(self):
-        files = site_files((desk.ROOT / "docs/operators.md").read_text())
-        self.assertTrue(files, "docs/operators.md has no site file")
-        for file in files:
-            with self.subTest(file=file):
-                one = self.new_desk()
-                answer = one.run("bpload", payload=file.encode())
-                self.assertEqual((answer.status, answer.err), (0, b""), answer.out)
-                (record,) = vault.read(one.bytes())
-                self.assertEqual(answer.out, b"%d\n" % len(record.lines))
-                self.assertGreater(len(record.lines), 1)
-
-    def test_the_files_of_a_document_are_found(self):
-        document = "Text\n```\ncat >site.toml <<'END'\n[[client]]\nname = 1\nEND\n./bpdesk\n```\n"
-        self.assertEqual(site_files(document), ["[[client]]\nname = 1\n"])

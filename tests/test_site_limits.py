@@ -1,4 +1,4 @@
-"""How many units, clients, policies and parts of a policy there may be: the last that is taken, and the next."""
+"""How many units, clients, policies, parts of a policy and images there may be: the last that is taken, and the next."""
 
 import vault
 from rows import RowsTest
@@ -187,6 +187,28 @@ class Limits(RowsTest):
             ]
         )
         self.is_refused_whole("schedules", 32, schedules(33))
+
+    def test_images(self):
+        """A vault with one image less than there may be: an image takes 66 bytes, so it has some 69 MB."""
+        count = 1_048_576
+        full = f"too many images: {count} of {count}"
+        head, tail = vault.record(vault.Image(b"a", vault.LATEST, b"", 0)).split(vault.LATEST.to_bytes(8, "big"))
+        images = [head + time.to_bytes(8, "big") + tail for time in range(1, count + 2)]
+        end = bytes([vault.CLOSED])
+        self.desk.put(vault.HEADER + b"".join(images[: count - 1]) + end)
+        self.run_session(
+            self.desk,
+            [
+                ("@5 bpbackup client=b", 0, "b_5", b"x"),
+                ("@6 bpbackup client=b", 15, full, b"x"),
+                ("@6 bpbackup client=b policy=q", 15, full, b"x"),
+                ("client remove name=a", 5, "a in use by a_1"),
+                ("bprestore id=b_5", 0, b"x"),
+            ],
+        )
+        self.desk.put(vault.HEADER + b"".join(images) + end)
+        gate = len(vault.HEADER) + count * len(images[0])
+        self.check_quiet(self.desk.run("client remove name=a"), 22, b"not a vault at %d\n" % gate)
 
     def test_a_large_site(self):
         """Each of many policies lists many clients, and the vault opens again."""

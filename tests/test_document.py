@@ -1,0 +1,61 @@
+"""The operator's document: its worked commands print what it says, and its site files load."""
+
+import os
+import re
+import subprocess
+from pathlib import Path
+
+import desk
+import vault
+from desk import DeskTest
+
+DOCUMENT = desk.ROOT / "docs/operators.md"
+
+
+def parts(document):
+    """Returns the text before each fenced block, with the block."""
+    return re.findall(r"(.*?)^```[^\n]*\n(.*?)^```$", document, re.DOTALL | re.MULTILINE)
+
+
+def worked(document):
+    """Returns each block of commands, with the block that says what they print."""
+    found = parts(document)
+    return [(before[1], after[1]) for before, after in zip(found, found[1:]) if re.fullmatch(r"\s*It prints:?\s*", after[0])]
+
+
+def site_files(document):
+    """Returns the site files, which are blocks or stand in blocks as the input of a command."""
+    blocks = [block for _, block in parts(document)]
+    blocks += [text for block in blocks for _, text in re.findall(r"<<'?(\w+)'?\n(.*?)^\1$", block, re.DOTALL | re.MULTILINE)]
+    return [block for block in blocks if re.match(r"(#[^\n]*\n|\s)*\[", block) and re.search(r"^\[\[\w+\]\]$", block, re.MULTILINE)]
+
+
+class Document(DeskTest):
+    def test_worked_commands_print_what_it_says(self):
+        """They are pasted one after another, at the top of a folder in which the program has the launcher's name."""
+        found = worked(DOCUMENT.read_text())
+        if not found:
+            self.skipTest(f"{DOCUMENT} has no worked commands between fences")
+        os.symlink(desk.PROGRAM, Path(self.top, "bpdesk"))
+        for commands, printed in found:
+            with self.subTest(commands=commands):
+                ran = subprocess.run(["bash"], input=commands, stdout=subprocess.PIPE, cwd=self.top, text=True, timeout=desk.PATIENCE)
+                self.assertEqual(ran.stdout.rstrip("\n"), printed.rstrip("\n"))
+
+    def test_each_site_file_loads(self):
+        found = site_files(DOCUMENT.read_text())
+        if not found:
+            self.skipTest(f"{DOCUMENT} has no site file yet")
+        for file in found:
+            with self.subTest(file=file):
+                one = self.new_desk()
+                answer = one.run("bpload", payload=file.encode())
+                self.assertEqual((answer.status, answer.err), (0, b""), answer.out)
+                (record,) = vault.read(one.bytes())
+                self.check(answer, 0, b"%d\n" % len(record.lines))
+                self.assertGreater(len(record.lines), 1)
+
+    def test_the_blocks_of_a_document_are_found(self):
+        document = "Paste this:\n\n```sh\ncat >site <<'END'\n[[client]]\nname = 1\nEND\ncat site\n```\n\nIt prints\n\n```\n[[client]]\n```\n\nElse\n\n```\n[x]\n```\n"
+        self.assertEqual(worked(document), [("cat >site <<'END'\n[[client]]\nname = 1\nEND\ncat site\n", "[[client]]\n")])
+        self.assertEqual(site_files(document), ["[[client]]\n", "[[client]]\nname = 1\n"])
