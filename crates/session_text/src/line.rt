@@ -5,12 +5,10 @@ ghost use Rattle.session_text.specs.Turns.{line_limit, is_line_feed, line_end, w
 ghost use Rattle.session_text.specs.Reads.{IsLine};
 
 use crate::NoMemory;
-use site_types::{ListOf, Text, read_number};
+use site_types::{ListOf, PAYLOAD_LIMIT, Text, read_number};
 use std::alloc::Global;
 
 pub(crate) const LINE_LIMIT: usize = 8192;
-
-const PAYLOAD_LIMIT: u64 = 67_108_864;
 
 // What a line asks for.
 #[derive(Drop)]
