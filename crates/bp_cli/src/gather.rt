@@ -7,11 +7,9 @@ ghost use Rattle.site_types.specs.Limits.{last_moment, payload_limit};
 ghost use Rattle.bp_cli.specs.Gather.{clock_moment, Gathers, IsLimited, IsMoment, IsTooLongOr, IsUngathered};
 
 use crate::payload::{Taken, take_given};
-use site_types::{Answer, NoMemory, Text};
+use site_types::{Answer, NoMemory, PAYLOAD_LIMIT, Text};
 use std::alloc::Global;
 use vault_disk::{Clock, Failed, Source};
-
-const PAYLOAD_LIMIT: u64 = 67_108_864;
 
 /// A payload, and a moment in seconds since 1970-01-01T00:00:00Z.
 #[derive(Drop)]

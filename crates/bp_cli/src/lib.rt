@@ -18,3 +18,5 @@ mod session_tests;
 mod site_tests;
 #[cfg(test)]
 mod tests;
+#[cfg(test)]
+mod word_tests;

@@ -5,11 +5,11 @@ ghost use Rattle.vault_disk.specs.Steps.{Rose};
 ghost use Rattle.site_types.specs.Limits.{payload_limit};
 ghost use Rattle.bp_cli.specs.Payload.{IsTaken, IsTakenFor, IsShort};
 
-use site_types::{NoMemory, Text};
+use site_types::{NoMemory, PAYLOAD_LIMIT, Text};
 use std::alloc::Global;
 use vault_disk::Source;
 
-const PAYLOAD_LIMIT: usize = 67_108_864;
+const MOST: usize = PAYLOAD_LIMIT as usize;
 
 const BLOCK: usize = 65_536;
 
@@ -40,7 +40,7 @@ fn take_blocks<S: Source>(source: &mut S, bytes: Vec<u8>, block: &mut [u8]) -> T
         if count == 0 {
             return Taken::Whole(Text::from_vec(bytes));
         }
-        if count > PAYLOAD_LIMIT - bytes.len() {
+        if count > MOST - bytes.len() {
             return Taken::TooLong;
         }
         if bytes.extend_from_slice(&block[..count]).is_err() {
