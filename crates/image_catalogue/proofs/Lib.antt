@@ -1,4 +1,4 @@
 pub mod CountLemmas
-pub mod PlaceLemmas
+pub mod ImageLemmas
+pub mod EntryLemmas
 pub mod ChangeLemmas
-pub mod ClientLemmas

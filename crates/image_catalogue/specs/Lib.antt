@@ -1,3 +1,3 @@
 pub mod Images
-pub mod Places
+pub mod Entries
 pub mod Counts

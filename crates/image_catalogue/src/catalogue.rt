@@ -4,17 +4,18 @@ ghost use Rattle.site_types.specs.declared.image.ImageRecord.{ImageRecord as Rec
 ghost use Rattle.image_catalogue.specs.Images.{AreById, bytes_on, first_of_client, first_under, record_named, used, with_record, without_record};
 
 use crate::NoMemory;
-use crate::place::{first_of_client, new_place, place};
 use crate::unit_bytes::{UnitBytes, bytes_of, counted, uncount};
 use site_types::{BackupId, ImageRecord, Name};
 use std::alloc::Global;
+use std::collections::BTreeMap;
+use std::collections::btree_map::Values;
 use std::marker::Model;
 
 /// The images of a vault, by client and then by time, and the bytes that their kept copies have on each unit. Contracts see it
 /// as the list of its images.
 #[derive(Debug, Drop)]
 pub struct Catalogue {
-    images: Vec<ImageRecord>,
+    images: BTreeMap<BackupId, ImageRecord>,
     used: Vec<UnitBytes>,
 }
 
@@ -24,12 +25,13 @@ impl Model for Catalogue {
 
     ghost Value = { List ImageRecord };
 
-    ghost use Rattle.image_catalogue.specs.Images.{AreById};
+    ghost use Rattle.std.specs.BTreeMap.{values};
     ghost use Rattle.image_catalogue.specs.Counts.{Counts};
+    ghost use Rattle.image_catalogue.specs.Entries.{KeysAreIds};
 
-    ghost view = { λ c. c.images.items };
+    ghost view = { λ c. values c.images };
 
-    ghost invariant = { λ c. AreById c.images.items × Counts c.used.items c.images.items };
+    ghost invariant = { λ c. KeysAreIds c.images.entries × Counts c.used.items (values c.images) };
 }
 
 impl Catalogue {
@@ -38,17 +40,17 @@ impl Catalogue {
         ensures { result ≡ [] }
     {
         Catalogue {
-            images: Vec::new(alloc),
+            images: BTreeMap::new(alloc),
             used: Vec::new(alloc),
         }
     }
 
     /// The images, by client and then by time.
-    pub fn images(&self) -> &[ImageRecord]
-        ensures images { result.now ≡ self.now }
+    pub fn iter(&self) -> Values<'_, BackupId, ImageRecord>
+        ensures rest { result ≡ self.now }
         ensures by_id { AreById self.now }
     {
-        &self.images
+        self.images.values()
     }
 
     /// How many images there are.
@@ -62,10 +64,7 @@ impl Catalogue {
     pub fn find(&self, id: &BackupId) -> Option<&ImageRecord>
         ensures { option_copied result ≡ record_named id.now self.now }
     {
-        match place(&self.images, id) {
-            Ok(at) => Some(&self.images[at]),
-            Err(_) => None,
-        }
+        self.images.get(id)
     }
 
     /// The bytes that the kept copies of all images have on a unit, before equal segments are stored once.
@@ -79,14 +78,16 @@ impl Catalogue {
     pub fn first_of_client(&self, client: &Name) -> Option<&ImageRecord>
         ensures { option_copied result ≡ first_of_client client.now self.now }
     {
-        first_of_client(&self.images, client)
+        self.images
+            .values()
+            .find(|image| image.id.client == *client)
     }
 
     /// The first image that was made under a policy, and None exactly where there is none.
     pub fn first_under(&self, policy: &Name) -> Option<&ImageRecord>
         ensures { option_copied result ≡ first_under policy.now self.now }
     {
-        self.images.iter().find(|image| image.policy == *policy)
+        self.images.values().find(|image| image.policy == *policy)
     }
 
     /// Adds an image whose id is new. Without memory the catalogue stays, and so it does where the bytes on a unit would pass
@@ -100,8 +101,8 @@ impl Catalogue {
             → OnOk result (used unit self.new ≡ bytes_on unit image.length image.copies + used unit self.old) }
     {
         let used = counted(alloc, &self.used, &image)?;
-        let at = new_place(&self.images, &image.id);
-        self.images.insert(at, image)?;
+        let id = image.id.copy(alloc)?;
+        self.images.insert(id, image)?;
         self.used = used;
         Ok(())
     }
@@ -115,8 +116,7 @@ impl Catalogue {
             → id.now ≡ image.id
             → self.new ≡ images }
     {
-        if let Ok(at) = place(&self.images, id) {
-            let image = self.images.remove(at);
+        if let Some(image) = self.images.remove(id) {
             uncount(&mut self.used, &image);
         }
     }

@@ -2,7 +2,6 @@
 #![tactic(auto)]
 
 mod catalogue;
-mod place;
 mod unit_bytes;
 
 pub use catalogue::Catalogue;

@@ -79,8 +79,9 @@ fn images_stand_by_client_and_time(rt: HostRuntime) -> Result<(), NoMemory> {
         40,
         &[b"disk1", b"disk1"],
     )?;
-    for (at, (client, time)) in [(b"a", 3), (b"a", 7), (b"b", 1)].iter().enumerate() {
-        let image = catalogue.images().get(at).expect(&rt, "an image");
+    let mut images = catalogue.iter();
+    for (client, time) in &[(b"a", 3), (b"a", 7), (b"b", 1)] {
+        let image = images.next().expect(&rt, "an image");
         assert_eq!(rt; image.id.client.bytes(), client.as_slice());
         assert_eq!(rt; image.id.time, *time);
     }

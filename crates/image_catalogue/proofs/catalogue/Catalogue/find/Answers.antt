@@ -1,10 +1,7 @@
-use Rattle.image_catalogue.proofs.PlaceLemmas.{found_as, lost_as}
+use Rattle.std.proofs.Common.{◌∙◌, ap}
+use Rattle.image_catalogue.specs.Images.{record_named}
+use Rattle.image_catalogue.proofs.EntryLemmas.{found}
 use Rattle.image_catalogue.proofs.catalogue.Catalogue.find.Goals as goal
 
-pub returns-in-Ok : goal.returns-in-Ok
-returns-in-Ok c =
-    found_as c.self.inside.images.items c.deref.result.now c.args.self.now c.args.id.now c.in-Ok.at c.index.result.now c.self.invariant.0 c.deref.ensures.value c.self.view_is c.in-Ok.ensures c.index.ensures
-
-pub returns-in-Err : goal.returns-in-Err
-returns-in-Err c =
-    lost_as c.self.inside.images.items c.deref.result.now c.args.self.now c.args.id.now c.in-Err.field-0 c.deref.ensures.value c.self.view_is c.in-Err.ensures
+pub returns : goal.returns
+returns c = c.get.ensures.value ∙ found c.self.inside.images.entries c.args.id.now c.self.invariant.0 ∙ ap (record_named c.args.id.now) c.self.view_is
