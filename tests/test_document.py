@@ -34,8 +34,7 @@ class Document(DeskTest):
     def test_worked_commands_print_what_it_says(self):
         """They are pasted one after another, at the top of a folder in which the program has the launcher's name."""
         found = worked(DOCUMENT.read_text())
-        if not found:
-            self.skipTest(f"{DOCUMENT} has no worked commands between fences")
+        self.assertTrue(found, "no worked commands")
         os.symlink(desk.PROGRAM, Path(self.top, "bpdesk"))
         for commands, printed in found:
             with self.subTest(commands=commands):
@@ -44,8 +43,7 @@ class Document(DeskTest):
 
     def test_each_site_file_loads(self):
         found = site_files(DOCUMENT.read_text())
-        if not found:
-            self.skipTest(f"{DOCUMENT} has no site file yet")
+        self.assertTrue(found, "no site file")
         for file in found:
             with self.subTest(file=file):
                 one = self.new_desk()

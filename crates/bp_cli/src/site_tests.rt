@@ -69,28 +69,34 @@ fn names_are_there_or_unknown(rt: HostRuntime) -> Result<(), NoMemory> {
     Ok(())
 }
 
+// Payloads of 101 and of 80 bytes.
+const LONG: &str =
+    "01234567890123456789012345678901234567890123456789012345678901234567890123456789012345678901234567890";
+
+const EIGHTY: &str =
+    "01234567890123456789012345678901234567890123456789012345678901234567890123456789";
+
 #[test]
 fn a_unit_is_full_or_above_its_mark(rt: HostRuntime) -> Result<(), NoMemory> {
-    let ten = "0123456789";
     let rows: [Row; 5] = [
         (
-            "unit change name=disk0 capacity=9 high=50 low=40",
+            "unit change name=disk0 capacity=100 high=80 low=40",
             "",
             0,
             "",
         ),
         (
             "@10 bpbackup client=a",
-            ten,
+            LONG,
             10,
-            "disk0 full: 0 + 10 of 9\n",
+            "disk0 full: 0 + 101 of 100\n",
         ),
-        ("@10 bpbackup client=a", "01234", 0, "a_10\n"),
+        ("@10 bpbackup client=a", EIGHTY, 0, "a_10\n"),
         (
             "@11 bpbackup client=a",
             "0",
             9,
-            "disk0 above high: 5 of 9\n",
+            "disk0 above high: 80 of 100\n",
         ),
         ("client remove name=a", "", 5, "a in use by a_10\n"),
     ];

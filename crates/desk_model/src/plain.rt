@@ -1,5 +1,4 @@
-ghost use Rattle.std.specs.Prelude.{◌≡◌, ◌≤◌, length, codes, IfOk, OnErr};
-ghost use Rattle.schedule_windows.specs.Zones.{PosixRule};
+ghost use Rattle.std.specs.Prelude.{◌≡◌, ◌≤◌, length, IfOk, OnErr};
 ghost use Rattle.site_types.specs.Limits.{last_moment, payload_limit};
 ghost use Rattle.desk_model.specs.State.{initial};
 ghost use Rattle.desk_model.specs.Step.{step};
@@ -10,8 +9,6 @@ use crate::image::PlainImage;
 use crate::name::built_in;
 use crate::restore::restored;
 use crate::stored::PlainStored;
-use policy_book::Book;
-use schedule_windows::Zone;
 use site_types::{Answer, NoMemory, Request};
 use std::alloc::Global;
 use std::marker::Model;
@@ -41,12 +38,8 @@ impl PlainDesk {
         ensures { IfOk result (λ desk. desk ≡ initial) }
     {
         let disk = PlainStored::new(built_in(alloc, b"disk0")?, Vec::new(alloc));
-        let site = Site {
-            book: Book::new(alloc)?,
-            zone: first_zone(alloc)?,
-        };
         Ok(PlainDesk {
-            site,
+            site: Site::new(alloc)?,
             images: Vec::new(alloc),
             stored: Vec::from_array(alloc, [disk])?,
         })
@@ -83,15 +76,6 @@ impl PlainDesk {
             Request::Restore { id, copy } => restored(alloc, &self.images, id, *copy),
             _ => self.change(alloc, request),
         }
-    }
-}
-
-fn first_zone(alloc: Global) -> Result<Zone, NoMemory>
-    ensures { IfOk result (λ zone. zone ≡ PosixRule (codes "UTC0")) }
-{
-    match Zone::rule(alloc, "UTC0")? {
-        Some(zone) => Ok(zone),
-        None => unreachable!(),
     }
 }
 

@@ -1,3 +1,7 @@
+ghost use Rattle.std.specs.Prelude.{◌≡◌, codes, IfOk};
+ghost use Rattle.schedule_windows.specs.Zones.{PosixRule};
+ghost use Rattle.desk_model.specs.Site.{initial_site};
+
 use policy_book::Book;
 use schedule_windows::Zone;
 use site_types::{Copied, NoMemory};
@@ -8,6 +12,27 @@ use std::alloc::Global;
 pub struct Site {
     pub book: Book,
     pub zone: Zone,
+}
+
+impl Site {
+    /// The site of a new vault.
+    pub fn new(alloc: Global) -> Result<Site, NoMemory>
+        ensures { IfOk result (λ site. site ≡ initial_site) }
+    {
+        Ok(Site {
+            book: Book::new(alloc)?,
+            zone: first_zone(alloc)?,
+        })
+    }
+}
+
+fn first_zone(alloc: Global) -> Result<Zone, NoMemory>
+    ensures { IfOk result (λ zone. zone ≡ PosixRule (codes "UTC0")) }
+{
+    match Zone::rule(alloc, "UTC0")? {
+        Some(zone) => Ok(zone),
+        None => unreachable!(),
+    }
 }
 
 impl Copied for Site {

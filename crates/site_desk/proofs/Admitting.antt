@@ -3,17 +3,12 @@ use Rattle.std.proofs.Common.{◌≡◌, ◌≤◌, ℕ, zero, suc, max, List, [
 use Rattle.std.specs.Prelude.{Option, is_some, if◌then◌else◌, ◌||◌, Contains}
 use Rattle.std.specs.Option.{option_map_or}
 use Rattle.std.specs.Str.{bytes_eq}
-use Rattle.std.specs.Cmp.Lexicographic.{slice_cmp}
-use Rattle.std.specs.Ordering.{match_ordering, nat_cmp, is_eq}
-use Rattle.std.specs.declared.cmp.Ordering.{Ordering}
-use Rattle.std.specs.declared.cmp.Ordering.TheVariants.{Less, Equal, Greater}
-use Rattle.std.proofs.lemmas.Map.Text.{is_eq-slice_cmp}
 use Rattle.std.proofs.lemmas.Slice.Eq.{bytes_eq-Decides}
 use Rattle.site_types.specs.declared.id.BackupId.{BackupId}
 use Rattle.site_types.specs.declared.image.ImageRecord.{ImageRecord}
 use Rattle.pool_journal.specs.Records.{Found}
 use Rattle.policy_book.specs.declared.client.Client.{Client}
-use Rattle.policy_book.specs.Lists.{named, put}
+use Rattle.policy_book.specs.Lists.{named}
 use Rattle.policy_book.specs.Book.{Book, client_name}
 use Rattle.policy_book.specs.Changes.{last_of, client_sealed}
 use Rattle.image_catalogue.specs.Images.{same_id, is_before, record_named, with_record}
@@ -24,6 +19,7 @@ use Rattle.site_desk.specs.Known.{TimesBelow, IsWhole, Remembers}
 use Rattle.site_desk.specs.declared.extents.Extent.{Extent}
 use Rattle.site_desk.specs.declared.known.Known.{Known}
 use Rattle.site_desk.proofs.ExtentLemmas.{same_is, catalogued-with}
+use Rattle.site_desk.proofs.NamedLemmas.{named-put}
 
 -- The catalogue.
 
@@ -72,35 +68,10 @@ each-with P new (x ∷ images) here each one among = at (is_before new.entry.id 
 
 -- The clients.
 
-named_put : (new : Client) (other : List ℕ) (clients : List Client) → named client_name other (put client_name new clients) ≡ (if bytes_eq new.name other then Some new else named client_name other clients)
-named_put new other [] = refl
-named_put new other (c ∷ cs) = at (slice_cmp nat_cmp new.name c.name) refl (named_put new other cs)
-  where
-    at : (o : Ordering) → slice_cmp nat_cmp new.name c.name ≡ o → named client_name other (put client_name new cs) ≡ (if bytes_eq new.name other then Some new else named client_name other cs)
-        → named client_name other (match_ordering o (new ∷ c ∷ cs) (new ∷ cs) (c ∷ put client_name new cs)) ≡ (if bytes_eq new.name other then Some new else (if bytes_eq c.name other then Some c else named client_name other cs))
-    at Less is more = refl
-    at Equal is more = replaced (bytes_eq new.name other) refl
-      where
-        same : new.name ≡ c.name
-        same = (bytes_eq-Decides new.name c.name).0 (sym (is_eq-slice_cmp new.name c.name) ∙ ap is_eq is)
-
-        replaced : (b : Bool) → bytes_eq new.name other ≡ b → (if b then Some new else named client_name other cs) ≡ (if b then Some new else (if bytes_eq c.name other then Some c else named client_name other cs))
-        replaced true here = refl
-        replaced false here = λ i. if (sym here ∙ ap (λ (n : List ℕ). bytes_eq n other) same) i then Some c else named client_name other cs
-    at Greater is more = ap (λ (o : Option Client). if bytes_eq c.name other then Some c else o) more ∙ swapped (bytes_eq c.name other) (bytes_eq new.name other) refl refl
-      where
-        swapped : (a b : Bool) → bytes_eq c.name other ≡ a → bytes_eq new.name other ≡ b → (if a then Some c else (if b then Some new else named client_name other cs)) ≡ (if b then Some new else (if a then Some c else named client_name other cs))
-        swapped true true c_is new_is =
-            let same : new.name ≡ c.name = (bytes_eq-Decides new.name other).0 new_is ∙ sym ((bytes_eq-Decides c.name other).0 c_is) in
-            let tied : is_eq (slice_cmp nat_cmp new.name c.name) ≡ true = is_eq-slice_cmp new.name c.name ∙ (bytes_eq-Decides new.name c.name).1 same in
-            absurd (cc (tied, ap is_eq is))
-        swapped true false c_is new_is = refl
-        swapped false b c_is new_is = refl
-
 -- the last id time of a client after a backup of it, or of another, was sealed
 pub last_sealed : (name other : List ℕ) (time : ℕ) (book : Book) → last_of other (client_sealed name time book) ≡ (if bytes_eq name other then max (last_of name book) time else last_of other book)
 last_sealed name other time book =
-    ap (λ (o : Option Client). option_map_or (λ c. c.last) o 0) (named_put (record { name = name; last = max (last_of name book) time }) other book.clients) ∙ at (bytes_eq name other)
+    ap (λ (o : Option Client). option_map_or (λ c. c.last) o 0) (named-put client_name (record { name = name; last = max (last_of name book) time }) other book.clients) ∙ at (bytes_eq name other)
   where
     at : (b : Bool) → option_map_or (λ (c : Client). c.last) (if b then Some (record { name = name; last = max (last_of name book) time }) else named client_name other book.clients) 0 ≡ (if b then max (last_of name book) time else last_of other book)
     at true = refl

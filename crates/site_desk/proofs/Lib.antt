@@ -17,4 +17,5 @@ pub mod SiteSettings
 pub mod Standings
 pub mod States
 pub mod Writing
+pub mod ZoneLemmas
 pub mod OfRequests

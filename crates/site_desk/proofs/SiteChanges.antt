@@ -1,5 +1,5 @@
 -- What a request that changes the site leaves of what is known.
-use Rattle.std.proofs.Common.{◌≡◌, ◌∙◌, ◌≤◌, ℕ, Bool, true, false, List, [], ◌∷◌, length, map, refl, sym, ap, subst}
+use Rattle.std.proofs.Common.{◌≡◌, ◌∙◌, ◌≤◌, ℕ, Bool, true, false, List, [], ◌∷◌, ◌++◌, length, map, refl, sym, ap, subst}
 use Rattle.std.specs.Prelude.{Option, Some, None, cond, is_some, not, ◌||◌, ◌&&◌, ◌==◌, nat_le, if◌then◌else◌, codes, unwrap_or, Contains}
 use Rattle.std.specs.Option.{option_map_or}
 use Rattle.std.specs.Str.{bytes_eq}
@@ -12,12 +12,15 @@ use Rattle.policy_book.specs.Lists.{named, has}
 use Rattle.policy_book.specs.Book.{Book, Policy, unit_name, client_name, policy_name, client_limit, policy_limit}
 use Rattle.policy_book.specs.declared.client.Client.{Client}
 use Rattle.policy_book.specs.Changes.{has_lifecycle, last_of, lister}
+use Rattle.policy_book.specs.Changes as changes
+use Rattle.policy_book.specs.Requests.{refusals_of}
+use Rattle.policy_book.specs.declared.fault.BookFault.{BookFault}
 use Rattle.image_catalogue.specs.Images.{same_id, first_of_client, record_named}
 use Rattle.pool_journal.specs.Records.{Found}
 use Rattle.desk_model.specs.declared.site.Site.{Site}
 use Rattle.desk_model.specs.State.{State, Image, Stored, entries, has_image}
 use Rattle.desk_model.specs.Refusals.{first_refusal, unless_refused}
-use Rattle.desk_model.specs.Settings.{is_setting, setting_refusals, setting_step, site_after}
+use Rattle.desk_model.specs.Settings.{is_setting, refusal_answer, use_refusals, setting_refusals, setting_step, site_after}
 use Rattle.desk_rules.specs.declared.decision.Change.TheVariants.{Settings}
 use Rattle.desk_rules.specs.declared.decision.Decision.{Decision}
 use Rattle.desk_rules.specs.Decisions.{IsStateOf, IsDecision, unless}
@@ -196,6 +199,18 @@ whole_after Load site images stored passes whole = record { lifecycles = whole.l
 whole_after (Backup client policy schedule start) site images stored passes whole = record { lifecycles = whole.lifecycles; unit = whole.unit; policies = whole.policies }
 whole_after (Restore id copy) site images stored passes whole = record { lifecycles = whole.lifecycles; unit = whole.unit; policies = whole.policies }
 
+-- What the desk lets through, the book lets through.
+book_passes : (rs : List (Bool × BookFault)) (more : List (Bool × Answer)) → first_refusal (map (λ (r : Bool × BookFault). (r.0, refusal_answer r.1)) rs ++ more) ≡ None → changes.first_refusal rs ≡ None
+book_passes [] more passes = refl
+book_passes (r ∷ rs) more passes = at r.0 (book_passes rs more) passes
+  where
+    later : Option Answer
+    later = first_refusal (map (λ (x : Bool × BookFault). (x.0, refusal_answer x.1)) rs ++ more)
+
+    at : (b : Bool) → (later ≡ None → changes.first_refusal rs ≡ None) → (if b then Some (refusal_answer r.1) else later) ≡ None → (if b then Some r.1 else changes.first_refusal rs) ≡ None
+    at true rest none = absurd (cc none)
+    at false rest none = rest none
+
 -- What set leaves.
 
 module _ (old new : Known) (images : List Image) (stored : List Stored) (r : Request) (d : Decision) (setting : is_setting r ≡ true) (decided : IsDecision (built old.site images stored) r [] 0 d) where
@@ -204,6 +219,9 @@ module _ (old new : Known) (images : List Image) (stored : List Stored) (r : Req
 
   abbrev passes : is_settings d.change ≡ true → first_refusal (setting_refusals r (built old.site images stored)) ≡ None
   passes is = taken _ (built old.site images stored) (setting_step r (built old.site images stored)) d said.1 is
+
+  pub allowed_so : is_settings d.change ≡ true → changes.first_refusal (refusals_of r old.site.book) ≡ None
+  allowed_so is = book_passes (refusals_of r old.site.book) (use_refusals r (built old.site images stored)) (passes is)
 
   pub set_so : is_settings d.change ≡ true → new.site ≡ site_after r old.site → new.catalogue ≡ old.catalogue → new.extents ≡ old.extents → IsSet (built old.site images stored) r old new None
   set_so is site_is catalogue_is extents_are = record { first = passes is; done = λ _. site_is; refused = λ a none. absurd (cc none); catalogue = catalogue_is; extents = extents_are }

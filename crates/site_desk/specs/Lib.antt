@@ -5,3 +5,4 @@ pub mod Replays
 pub mod Desk
 pub mod Restores
 pub mod Steps
+pub mod Zoned

@@ -1,19 +1,22 @@
 // What a desk knows of the records of its journal.
 ghost use Rattle.std.specs.Prelude.{◌≡◌, List, length, Contains, true, None, IfOk, OnOk, OnErr};
 ghost use Rattle.pool_journal.specs.Records.{Found};
-ghost use Rattle.policy_book.specs.Changes.{client_sealed};
+ghost use Rattle.site_types.specs.Lines.{IsFormed};
+ghost use Rattle.policy_book.specs.Changes.{client_sealed, first_refusal};
+ghost use Rattle.policy_book.specs.Requests.{refusals_of};
 ghost use Rattle.image_catalogue.specs.Images.{record_named, with_record};
 ghost use Rattle.desk_model.specs.State.{Image, Stored, entries};
 ghost use Rattle.desk_model.specs.Settings.{is_setting, site_after};
 ghost use Rattle.site_desk.specs.Extents.{Adds};
 ghost use Rattle.site_desk.specs.Known.{built, Remembers, IsSet, SameKnown, is_settings};
+ghost use Rattle.site_desk.specs.Zoned.{IsZoned};
 
 use crate::extents::{Extent, Extents};
 use crate::zone::zone_given;
 use desk_model::Site;
 use desk_rules::{Change, decide};
 use image_catalogue::Catalogue;
-use policy_book::Book;
+use policy_book::{Book, BookFault};
 use site_types::{Answer, BackupId, ImageRecord, NoMemory, Request};
 use std::alloc::{AllocError, Global};
 
@@ -30,6 +33,7 @@ impl Known {
     /// was.
     pub fn set(&mut self, alloc: Global, request: &Request) -> Result<Option<Answer>, NoMemory>
         requires setting { is_setting request.now ≡ true }
+        requires formed { IsFormed request.now }
         ensures set { (images : List Image) (stored : List Stored) → entries images ≡ self.old.catalogue → ((i : Image) → Contains images i → i.entry.length ≡ length i.bytes) → IfOk result (IsSet (built self.old.site images stored) request.now self.old self.new) }
         ensures remembered { (records : List Found) (images : List Image) → Remembers records self.old images → OnOk result (Remembers records self.new images) }
         ensures unchanged { OnErr result (self.new ≡ self.old) }
@@ -99,6 +103,8 @@ fn changes_site(change: &Change) -> bool
 // Makes the change of a request that nothing refuses.
 fn change_site(alloc: Global, site: &mut Site, request: &Request) -> Result<(), NoMemory>
     requires setting { is_setting request.now ≡ true }
+    requires zoned { IsZoned request.now }
+    requires allowed { first_refusal (refusals_of request.now site.old.book) ≡ None }
     ensures changed { OnOk result (site.new ≡ site_after request.now site.old) }
     ensures unchanged { OnErr result (site.new ≡ site.old) }
 {
@@ -108,6 +114,7 @@ fn change_site(alloc: Global, site: &mut Site, request: &Request) -> Result<(), 
     }
     match site.book.apply(alloc, request) {
         Ok(()) => Ok(()),
-        Err(_) => Err(AllocError),
+        Err(BookFault::NoMemory) => Err(AllocError),
+        Err(_) => unreachable!(), // Nothing refuses it.
     }
 }

@@ -1,7 +1,7 @@
 // The requests of a site file, all of them or none.
 ghost use Rattle.std.specs.Prelude.{◌≡◌, ℕ, List, [], All, map, OnOk, IfOk, IfErr, OnErr};
 ghost use Rattle.std.specs.List.{AllPass};
-ghost use Rattle.site_types.specs.Lines.{line_of};
+ghost use Rattle.site_types.specs.Lines.{IsFormed, line_of};
 ghost use Rattle.pool_journal.specs.declared.entry.Entry.TheVariants as entry;
 ghost use Rattle.pool_journal.specs.Entries.{IsStaged};
 ghost use Rattle.pool_journal.specs.Records.{Found};
@@ -56,7 +56,8 @@ fn set_each(
     known: &mut Known,
     requests: &[Request],
 ) -> Result<Option<Answer>, NoMemory>
-    requires { AllPass is_setting requests.now }
+    requires settings { AllPass is_setting requests.now }
+    requires formed { All IsFormed requests.now }
     ensures set { (images : List Image) (stored : List Stored) → AreListed known.old images → IfOk result (AreSet (all_set requests.now (built known.old.site images stored)) images known.new) }
     ensures remembered { (records : List Found) (images : List Image) → Remembers records known.old images → OnOk result (Remembers records known.new images) }
     ensures catalogue { known.new.catalogue ≡ known.old.catalogue }
@@ -72,7 +73,8 @@ fn set_each(
 
 // Carries out all requests. Where one of them is refused, and without memory, the site is put back as it was.
 fn set_all(alloc: Global, known: &mut Known, requests: &[Request]) -> Result<(), Answer>
-    requires { AllPass is_setting requests.now }
+    requires settings { AllPass is_setting requests.now }
+    requires formed { All IsFormed requests.now }
     ensures set { (images : List Image) (stored : List Stored) → AreListed known.old images → AreAllSet (all_set requests.now (built known.old.site images stored)) images known.new result }
     ensures remembered { (records : List Found) (images : List Image) → Remembers records known.old images → OnOk result (Remembers records known.new images) }
     ensures plain { IfErr result IsStepRefusal }

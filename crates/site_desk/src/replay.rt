@@ -22,9 +22,8 @@ use desk_model::Site;
 use image_catalogue::Catalogue;
 use policy_book::Book;
 use pool_journal::{Entry, Placed, WholeImage};
-use schedule_windows::Zone;
 use site_types::{BackupId, Base, LAST_MOMENT, NoMemory};
-use std::alloc::{AllocError, Global};
+use std::alloc::Global;
 
 const IMAGE_LIMIT: u64 = 1_048_576;
 
@@ -146,15 +145,8 @@ fn of_new_vault(alloc: Global) -> Result<Known, NoMemory>
     ensures site { IfOk result (λ k. k.site ≡ initial_site) }
     ensures remembered { (records : List Found) → IfOk result (λ k. Remembers records k []) }
 {
-    let Some(zone) = Zone::rule(alloc, "UTC0")? else {
-        return Err(AllocError); // It is a rule.
-    };
-    let site = Site {
-        book: Book::new(alloc)?,
-        zone,
-    };
     Ok(Known {
-        site,
+        site: Site::new(alloc)?,
         catalogue: Catalogue::new(alloc),
         extents: Extents::new(alloc),
     })

@@ -3,7 +3,7 @@ ghost use Rattle.std.specs.Prelude.{◌≡◌, List, true, IfOk, IfSome};
 ghost use Rattle.std.specs.List.{slice_split};
 ghost use Rattle.std.specs.Result.{result_ok};
 ghost use Rattle.std.specs.Str.{bytes_eq};
-ghost use Rattle.site_types.specs.Lines.{is_space, line_of, read_line};
+ghost use Rattle.site_types.specs.Lines.{is_space, line_of, read_line, IsFormed};
 ghost use Rattle.pool_journal.specs.Records.{Found};
 ghost use Rattle.desk_model.specs.State.{Image, Stored};
 ghost use Rattle.desk_model.specs.Settings.{is_setting};
@@ -38,7 +38,8 @@ fn split_words(alloc: Global, line: &[u8]) -> Result<Vec<Text>, NoMemory>
 
 // The request that a line asks for, and None where it is none.
 fn read_line(alloc: Global, line: &[u8]) -> Result<Option<Request>, NoMemory>
-    ensures { IfOk result (λ o. o ≡ result_ok (read_line line.now)) }
+    ensures read { IfOk result (λ o. o ≡ result_ok (read_line line.now)) }
+    ensures formed { IfOk result (λ o. IfSome o IsFormed) }
 {
     let words = split_words(alloc, line)?;
     match Request::read(alloc, &words) {
@@ -60,6 +61,7 @@ fn is_written_so(alloc: Global, request: &Request, line: &[u8]) -> Result<bool, 
 fn setting_of(alloc: Global, line: &[u8]) -> Result<Option<Request>, NoMemory>
     ensures request { IfOk result (λ o. o ≡ setting_of line.now) }
     ensures setting { IfOk result (λ o. IfSome o (λ request. is_setting request ≡ true)) }
+    ensures formed { IfOk result (λ o. IfSome o IsFormed) }
 {
     let Some(request) = read_line(alloc, line)? else {
         return Ok(None);

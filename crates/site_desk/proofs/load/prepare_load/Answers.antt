@@ -17,8 +17,8 @@ returns-in-Err-NotASite-clause-refused c records images stored moment remembers 
 pub returns-in-Err-NotASite-clause-plain : goal.returns-in-Err-NotASite-clause-plain
 returns-in-Err-NotASite-clause-plain c = plain_site c.args.payload.now (c.in-Err-NotASite.ensures.refused (ap Err c.in-Err-NotASite.field-0-is))
 
-pub set_all-requires : goal.set_all-requires
-set_all-requires c = subst (AllPass is_setting) (sym c.deref-2.ensures.value) (site_settings c.args.payload.now c.in-Ok.requests.items c.in-Ok.ensures.requests.1)
+pub set_all-requires-clause-settings : goal.set_all-requires-clause-settings
+set_all-requires-clause-settings c = subst (AllPass is_setting) (sym c.deref-2.ensures.value) (site_settings c.args.payload.now c.in-Ok.requests.items c.in-Ok.ensures.requests.1)
 
 pub returns-in-Ok-set_all-clause-ready : goal.returns-in-Ok-set_all-clause-ready
 returns-in-Ok-set_all-clause-ready c records images stored end moment remembers =

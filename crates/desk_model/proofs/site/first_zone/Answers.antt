@@ -3,7 +3,7 @@ use Rattle.std.specs.Prelude.{is_none, None, codes}
 use Rattle.std.proofs.lemmas.Bool.{false≢true}
 use Rattle.std.proofs.lemmas.Option.{MatchOption-at_none}
 use Rattle.jiff_tz.specs.PosixReader.{read_whole, read_tz, read_abbreviation, read_unquoted, read_offset, read_up_to_two, read_digit, read_sign, read_minutes}
-use Rattle.desk_model.proofs.plain.first_zone.Goals as goal
+use Rattle.desk_model.proofs.site.first_zone.Goals as goal
 
 -- jiff reads the rule
 is_read : read_whole (codes "UTC0") ≡ None → false ≡ true
