@@ -7,7 +7,7 @@ import time
 
 import vault
 from desk import DeskTest, frame
-from test_trace import Step, Traced, joined
+from test_trace import Step, Traced, joined, whole_replies
 
 
 class Kills(DeskTest):
@@ -66,10 +66,5 @@ class Order(Traced):
         for image, gate in zip(images, vault.gates(*images)):
             wanted += [Step("write", gate + 1, len(vault.record(image))), Step("sync"), Step("write", gate, 1), Step("sync")]
             wanted += [Step("reply", 0, len(frame(0, image.id + b"\n")))]
-        # (a reply may be sent in several writes)
-        steps = []
-        for step in joined(self.steps(lines)):
-            if steps and step.what == steps[-1].what == "reply":
-                step = Step("reply", 0, steps.pop().count + step.count)
-            steps.append(step)
+        steps = whole_replies(joined(self.steps(lines)))
         self.assertEqual(steps[-len(wanted) :], wanted)

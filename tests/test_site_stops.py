@@ -8,7 +8,7 @@ import time
 import vault
 from desk import DeskTest, frame
 from rows import line_of
-from test_trace import Step, Traced, joined
+from test_trace import Step, Traced, joined, whole_replies
 
 # Policies, each with its clients, of which a load has so many.
 CLIENTS = 16
@@ -102,12 +102,7 @@ class Order(Traced):
         for (_, reply, record), gate in zip(requests, vault.gates(*(record for _, _, record in requests))):
             wanted += [Step("write", gate + 1, len(vault.record(record))), Step("sync"), Step("write", gate, 1), Step("sync")]
             wanted += [Step("reply", 0, len(reply))]
-        # (a reply may be sent in several writes)
-        steps = []
-        for step in joined(self.steps(lines)):
-            if steps and step.what == steps[-1].what == "reply":
-                step = Step("reply", 0, steps.pop().count + step.count)
-            steps.append(step)
+        steps = whole_replies(joined(self.steps(lines)))
         self.assertEqual(steps[-len(wanted) :], wanted)
 
     def test_a_refusal_writes_nothing(self):

@@ -90,6 +90,16 @@ def joined(steps):
     return found
 
 
+def whole_replies(steps):
+    """Returns the steps with replies that follow one another put together: one may be sent in several writes."""
+    found = []
+    for step in steps:
+        if found and step.what == found[-1].what == "reply":
+            step = Step("reply", 0, found.pop().count + step.count)
+        found.append(step)
+    return found
+
+
 class Order(Traced):
     def backs_up(self, payload, images):
         """Backs up a payload behind some images and compares the calls from the record's first write on."""
