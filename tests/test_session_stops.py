@@ -1,12 +1,11 @@
 """Sessions of backups that are killed at any moment, and the order of their writes, syncs and replies."""
 
 import random
-import signal
-import threading
 import time
 
 import vault
 from desk import DeskTest, frame
+from killer import Killer
 from test_trace import Step, Traced, joined, whole_replies
 
 
@@ -28,19 +27,13 @@ class Kills(DeskTest):
         _, text = self.requests(draw, 1)
         began = time.monotonic()
         self.new_desk().run("session", payload=text)
-        usual = time.monotonic() - began
-        known, killed = [], 0
+        killer, known = Killer(9, time.monotonic() - began), []
         for turn in range(self.ROUNDS):
             if turn % 6 == 0:
                 self.desk, known = self.new_desk(), []
             new, text = self.requests(draw, known[-1].time + 1 if known else 1)
             process = self.desk.start("session")
-            timer = threading.Timer(draw.random() * usual * 1.1, process.send_signal, [signal.SIGKILL])
-            timer.start()
-            out, _ = process.communicate(text)
-            timer.cancel()
-            timer.join()
-            killed += process.returncode != 0
+            out = killer.talk(process, text)
             replies = [frame(0, it.id + b"\n") for it in new]
             self.assertTrue(b"".join(replies).startswith(out), "a reply differs")
             # The backups of whose reply a byte was seen.
@@ -51,7 +44,7 @@ class Kills(DeskTest):
             self.assertTrue(more == new[: len(more)], "the vault has images that were not sent, or not in order")
             self.assertIn(len(more), (seen, seen + 1), "an acknowledged image is gone, or more than one was under way")
             known = found
-        self.assertGreater(killed, self.ROUNDS // 4, "too few sessions were killed before their end to tell anything")
+        self.assertGreater(killer.killed, self.ROUNDS // 4, "too few sessions were killed before their end to tell anything")
         for image in known:
             self.check_quiet(self.desk.run(f"bprestore id={image.id.decode()}"), 0, image.payload)
 

@@ -1,12 +1,10 @@
 """Sessions that set up a site and are killed at any moment, and the order of their writes, syncs and replies."""
 
-import random
-import signal
-import threading
 import time
 
 import vault
 from desk import DeskTest, frame
+from killer import Killer
 from rows import line_of
 from test_trace import Step, Traced, joined, whole_replies
 
@@ -51,23 +49,16 @@ class Kills(DeskTest):
 
     def test_kills_at_any_moment(self):
         """After each kill every request of whose reply a byte was seen is there, whole, and at most one more."""
-        draw = random.Random(11)
         text = b"".join(request_of(turn)[0] for turn in range(1, self.TURNS + 1))
         began = time.monotonic()
         self.check_quiet(self.desk.run("session", payload=text), 0, b"".join(request_of(turn)[1] for turn in range(1, self.TURNS + 1)))
-        usual = time.monotonic() - began
-        known, killed = [], 0
+        killer, known = Killer(11, time.monotonic() - began), []
         for turn in range(self.ROUNDS):
             if turn % 6 == 0:
                 self.desk, known = self.new_desk(), []
             requests = [request_of(len(known) + 1 + more) for more in range(self.TURNS)]
             process = self.desk.start("session")
-            timer = threading.Timer(draw.random() * usual * 1.1, process.send_signal, [signal.SIGKILL])
-            timer.start()
-            out, _ = process.communicate(b"".join(request for request, _, _ in requests))
-            timer.cancel()
-            timer.join()
-            killed += process.returncode != 0
+            out = killer.talk(process, b"".join(request for request, _, _ in requests))
             replies = [reply for _, reply, _ in requests]
             self.assertTrue(b"".join(replies).startswith(out), "a reply differs")
             seen = next(count for count in range(len(replies) + 1) if len(b"".join(replies[:count])) >= len(out))
@@ -77,7 +68,7 @@ class Kills(DeskTest):
             self.assertIn(len(found) - len(known), (seen, seen + 1), "an answered change is gone, or more than one was under way")
             known = found
             self.opens_with(len(known))
-        self.assertGreater(killed, self.ROUNDS // 4, "too few sessions were killed before their end to tell anything")
+        self.assertGreater(killer.killed, self.ROUNDS // 4, "too few sessions were killed before their end to tell anything")
 
     def opens_with(self, count):
         """Opens the vault: it has the first so many requests, and of the next load nothing."""
