@@ -2,13 +2,13 @@
 
 import os
 import random
-import signal
 import threading
 import time
 from pathlib import Path
 
 import vault
 from desk import DeskTest
+from killer import Killer
 from test_backup import HELLO
 
 IN_USE = (b"in use", b"another process", b"lock")
@@ -99,21 +99,14 @@ class Kills(DeskTest):
         draw = random.Random(3)
         began = time.monotonic()
         self.new_desk().run("@1 bpbackup client=a", payload=bytes(200_000))
-        usual = time.monotonic() - began
-        known, killed, cut_short = [], 0, 0
+        killer, known = Killer(4, time.monotonic() - began), []
         for turn in range(1, self.ROUNDS + 1):
             # (a new vault now and then, so that its making is met too)
             if turn % 10 == 0:
                 self.desk, known = self.new_desk(), []
             payload = draw.randbytes(draw.choice([0, 5, 5_000, 200_000, 1_000_000]))
             process = self.desk.start(f"@{turn} bpbackup client=a")
-            timer = threading.Timer(draw.random() * usual * 2, process.send_signal, [signal.SIGKILL])
-            timer.start()
-            out, _ = process.communicate(payload)
-            timer.cancel()
-            timer.join()
-            self.assertIn(process.returncode, (0, -signal.SIGKILL))
-            killed += process.returncode != 0
+            out = killer.talk(process, payload)
             last = max([image.time for image in known], default=0)
             new = vault.Image(b"a", max(turn, last + 1), payload, turn)
             found = vault.read(self.desk.bytes()) if self.desk.file().exists() else []
@@ -121,7 +114,6 @@ class Kills(DeskTest):
             if out:
                 self.assertTrue((new.id + b"\n").startswith(out))
                 self.assertTrue(found == [*known, new], "an acknowledged image is gone")
-            cut_short += found == known
             known = found
         self.check_quiet(self.desk.run("@1 bpbackup client=a", payload=b"x"), 0, b"a_%d\n" % (max([0, *(image.time for image in known)]) + 1))
-        self.assertGreater(killed, self.ROUNDS // 10, "too few processes were killed before their end to tell anything")
+        self.assertGreater(killer.killed, self.ROUNDS // 10, "too few processes were killed before their end to tell anything")
