@@ -1,6 +1,7 @@
 pub mod Names
 pub mod Numbers
 pub mod Limits
+pub mod Classes
 pub mod Dates
 pub mod Digits
 pub mod Weekdays
