@@ -1,8 +1,9 @@
 pub mod Admitting
 pub mod Changing
+pub mod Deciding
 pub mod ExtentLemmas
 pub mod ImageLemmas
-pub mod Knowing
+pub mod IndexLemmas
 pub mod Loading
 pub mod NamedLemmas
 pub mod SiteChanges

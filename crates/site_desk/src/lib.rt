@@ -6,7 +6,7 @@ mod change;
 mod desk;
 mod extents;
 mod image;
-mod known;
+mod index;
 mod lines;
 mod load;
 mod open;

@@ -4,4 +4,4 @@ use Rattle.site_desk.proofs.setting.settle_line.Goals as goal
 
 pub returns : goal.returns
 returns c records images stored remembers =
-    line_settled records images stored c.args.line.now c.in-Some.request _ _ c.args.known.now c.set.new.self (sym c.in_ok-request.ensures.request ∙ c.in-Some.is) c.is_none.ensures (c.in_ok-set.ensures.set images stored remembers.listed remembers.sized) (c.in_ok-set.ensures.remembered records images remembers)
+    line_settled records images stored c.args.line.now c.in-Some.request _ _ c.args.index.now c.set.new.self (sym c.in_ok-request.ensures.request ∙ c.in-Some.is) c.is_none.ensures (c.in_ok-set.ensures.set images stored remembers.listed remembers.sized) (c.in_ok-set.ensures.remembered records images remembers)
