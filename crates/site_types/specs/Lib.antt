@@ -16,6 +16,7 @@ pub mod Values
 pub mod Ids
 pub mod Answers
 pub mod Keys
+pub mod Forms
 pub mod Requests
 pub mod Lines
 pub mod LineTexts

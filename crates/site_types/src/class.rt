@@ -18,7 +18,10 @@ pub enum ByClass<'a> {
         start: Option<Start>,
     },
     /// An image's bytes are given back.
-    Restore { id: &'a BackupId, copy: Option<u8> },
+    Restore {
+        id: &'a BackupId,
+        copy: Option<u8>,
+    },
 }
 
 impl Request {
