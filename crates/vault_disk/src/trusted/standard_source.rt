@@ -1,6 +1,7 @@
+// Trusted: that a read gives the next bytes of the reader, each once, and none only where the reader has ended.
 ghost use Rattle.std.specs.Prelude.{◌≡◌, ◌≤◌, ◌-◌, ◌^◌, length, IfOk};
 
-use crate::faults::raise;
+use crate::faults::{counted, raise};
 use crate::{Failed, Source};
 use std::io;
 use std::io::{ErrorKind, Read};
@@ -38,28 +39,21 @@ impl<T: Read + Drop> Source for StandardSource<T> {
         if room < into.len() && room == 0 {
             return Err(raise(&mut self.faults));
         }
-        match read_some(&mut self.reader, &mut into[..room]) {
-            Ok(count) => {
-                self.budget -= count as u64;
-                Ok(count)
-            }
-            Err(_) => Err(raise(&mut self.faults)),
-        }
+        let read = read_some(&mut self.reader, &mut into[..room]);
+        let count = counted(read, &mut self.faults)?;
+        self.budget -= count as u64;
+        Ok(count)
     }
 }
 
 // Reads again where a signal interrupts the call.
-fn read_some<T: Read>(reader: &mut T, into: &mut [u8]) -> io::Result<usize>
+pub(crate) fn read_some<T: Read>(reader: &mut T, into: &mut [u8]) -> io::Result<usize>
     ensures { IfOk result (λ n. n ≤ length into.new) }
 {
     for _turn in 0..u64::MAX {
         match reader.read(into) {
-            Ok(count) => return Ok(count),
-            Err(fault) => {
-                if fault.kind() != ErrorKind::Interrupted {
-                    return Err(fault);
-                }
-            }
+            Err(fault) if fault.kind() == ErrorKind::Interrupted => {}
+            read => return read,
         }
     }
     Err(io::Error::from(ErrorKind::Interrupted))

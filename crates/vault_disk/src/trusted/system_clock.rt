@@ -1,9 +1,9 @@
-ghost use Rattle.std.specs.Prelude.{◌≡◌};
+// Trusted: that the moment is that of the system's clock.
+ghost use Rattle.std.specs.Prelude.{◌≡◌, ◌≤◌, IfOk};
 
-use crate::faults::raise;
+use crate::faults::counted;
 use crate::{Clock, Failed};
 use std::io;
-use std::io::ErrorKind;
 use std::time::{Clock as Time, SystemTime, UNIX_EPOCH};
 
 const LAST_MOMENT: u64 = 250_000_000_000;
@@ -31,22 +31,15 @@ impl<R: Time + Drop> Clock for SystemClock<R> {
     ghost ticks = { λ c. silent_ticks c.faults };
 
     fn now(&mut self) -> Result<u64, Failed> {
-        match seconds(&self.rt) {
-            Ok(moment) => {
-                if moment <= LAST_MOMENT {
-                    Ok(moment)
-                } else {
-                    Err(raise(&mut self.faults))
-                }
-            }
-            Err(_) => Err(raise(&mut self.faults)),
-        }
+        counted(moment(&self.rt), &mut self.faults)
     }
 }
 
-fn seconds(rt: &impl Time) -> io::Result<u64> {
+fn moment(rt: &impl Time) -> io::Result<u64>
+    ensures { IfOk result (λ m. m ≤ 250000000000) }
+{
     match SystemTime::now(rt)?.duration_since(UNIX_EPOCH) {
-        Ok(passed) => Ok(passed.as_secs()),
-        Err(_) => Err(io::Error::from(ErrorKind::InvalidData)),
+        Ok(passed) if passed.as_secs() <= LAST_MOMENT => Ok(passed.as_secs()),
+        _ => Err(io::Error::from(io::ErrorKind::InvalidData)),
     }
 }

@@ -1,7 +1,7 @@
 use Rattle.std.proofs.Common.{rules, arith}
 use Rattle.vault_disk.proofs.Moments.{same_on}
 use Rattle.vault_disk.proofs.ReadOn.{filled_on, within_part, looked_on}
-use Rattle.vault_disk.proofs.fully.read_fully.Goals as goal
+use Rattle.vault_disk.proofs.whole.read_fully.Goals as goal
 
 pub loop-filled-preserved : goal.loop-filled-preserved
 loop-filled-preserved g c =

@@ -2,7 +2,7 @@ use Rattle.std.proofs.Common.{length, ◌-◌, ◌≤◌, ◌+◌, ◌<◌, ◌^
 use Rattle.vault_disk.specs.Disk.{IsSame}
 use Rattle.vault_disk.specs.Steps.{LookedAround}
 use Rattle.vault_disk.proofs.ReadOn.{Filled}
-use Rattle.vault_disk.proofs.fully.read_fully.Given as goal
+use Rattle.vault_disk.proofs.whole.read_fully.Given as goal
 
 abbrev pub invariant-loop-filled : goal.invariant-loop-filled
 invariant-loop-filled g l = record {
