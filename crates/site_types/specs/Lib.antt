@@ -14,6 +14,7 @@ pub mod ZoneWords
 pub mod Paths
 pub mod Values
 pub mod Ids
+pub mod Fields
 pub mod Answers
 pub mod Keys
 pub mod Forms
