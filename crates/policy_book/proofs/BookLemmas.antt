@@ -1,14 +1,11 @@
 -- Books with another list.
 use Rattle.std.proofs.Common.{◌≡◌, ◌∙◌, ℕ, List, get_or, set, ap, sym, refl}
-use Rattle.std.specs.Prelude.{[], ◌∷◌, ◌++◌, filter, not}
-use Rattle.std.specs.Str.{bytes_eq}
 use Rattle.site_types.specs.declared.unit.Unit.{Unit as StorageUnit}
-use Rattle.site_types.specs.declared.schedule.Schedule.{Schedule}
 use Rattle.policy_book.specs.declared.client.Client.{Client}
 use Rattle.policy_book.specs.declared.book.Book.TheInside.{Inside}
-use Rattle.policy_book.specs.Lists.{AreByName, put, without, itself}
+use Rattle.policy_book.specs.Lists.{AreByName}
 use Rattle.policy_book.specs.Places.{StandsAt}
-use Rattle.policy_book.specs.Book.{Book, Policy, policy_name, schedule_name}
+use Rattle.policy_book.specs.Book.{Book, Policy, policy_name}
 use Rattle.policy_book.specs.Changes.{with_policy}
 use Rattle.policy_book.proofs.ListLemmas.{changed_in_place, stands_as}
 
