@@ -2,8 +2,8 @@ use crate::forms::{form_among, formless};
 use crate::keys::first_bad;
 use crate::line::Line;
 use crate::{
-    BackupId, CalendarItem, Class, Form, Kind, ListOf, Name, NoMemory, PolicyType, Start, Text,
-    Windows,
+    BackupId, ByClass, CalendarItem, Class, Form, Kind, ListOf, Name, NoMemory, PolicyType, Start,
+    Text, Windows,
 };
 use std::alloc::Global;
 
@@ -130,7 +130,7 @@ impl From<NoMemory> for WordFault {
 
 impl Request {
     ghost use Rattle.std.specs.Prelude.{◌≡◌, ◌++◌, length, IfOk, OnOk, OnErr};
-    ghost use Rattle.site_types.specs.Classes.{class_of, tag_of};
+    ghost use Rattle.site_types.specs.Classes.{class_of, class_seen, tag_of};
     ghost use Rattle.site_types.specs.Requests.{IsReading, IsWithin, read_words, takes_payload};
     ghost use Rattle.site_types.specs.Lines.{IsFormed, line_of};
 
@@ -154,6 +154,42 @@ impl Request {
         ensures { result ≡ takes_payload self.now }
     {
         self.form().takes_payload
+    }
+
+    /// Its class, with what that asks for.
+    pub fn by_class(&self) -> ByClass<'_>
+        ensures { class_seen result ≡ class_of self.now }
+    {
+        match self {
+            Request::UnitAdd { .. }
+            | Request::UnitChange { .. }
+            | Request::ClientAdd { .. }
+            | Request::ClientRemove { .. }
+            | Request::PolicyAdd { .. }
+            | Request::PolicyChange { .. }
+            | Request::PolicyRemove { .. }
+            | Request::PolicyClientAdd { .. }
+            | Request::PolicyClientRemove { .. }
+            | Request::PolicySelect { .. }
+            | Request::PolicyUnselect { .. }
+            | Request::ScheduleAdd { .. }
+            | Request::ScheduleChange { .. }
+            | Request::ScheduleRemove { .. }
+            | Request::ZoneSet { .. } => ByClass::SiteChange(self),
+            Request::Load => ByClass::SiteFile,
+            Request::Backup {
+                client,
+                policy,
+                schedule,
+                start,
+            } => ByClass::Backup {
+                client,
+                policy: policy.as_ref(),
+                schedule: schedule.as_ref(),
+                start: *start,
+            },
+            Request::Restore { id, copy } => ByClass::Restore { id, copy: *copy },
+        }
     }
 
     /// The class of its form.
