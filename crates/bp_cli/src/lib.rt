@@ -11,12 +11,3 @@ mod turn;
 mod words;
 
 pub use session::run;
-
-#[cfg(test)]
-mod session_tests;
-#[cfg(test)]
-mod site_tests;
-#[cfg(test)]
-mod tests;
-#[cfg(test)]
-mod word_tests;
