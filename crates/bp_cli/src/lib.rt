@@ -1,9 +1,9 @@
 //! The runs of the program: words and a source in, a reply and a status out.
 #![tactic(auto)]
 
+mod execute;
 mod frame;
 mod gather;
-mod obey;
 mod payload;
 mod serve;
 mod session;
