@@ -17,8 +17,8 @@ use Rattle.desk_model.specs.Step.{step, restore_refusals, bytes_of}
 use Rattle.site_desk.specs.Desk as desk
 use Rattle.bp_cli.specs.Gather.{Gathers, IsGiven}
 use Rattle.bp_cli.specs.Runs.{IsNoFile, IsOfRequest}
-use Rattle.bp_cli.specs.declared.gather.Gathered.{Gathered}
-use Rattle.bp_cli.specs.declared.words.Spoken.{Spoken}
+use Rattle.bp_cli.specs.declared.gather.Inputs.{Inputs}
+use Rattle.bp_cli.specs.declared.words.TimedRequest.{TimedRequest}
 
 unmoved : (s : State) (refusal : Option Answer) (done : Answer × State) → (NeedsMemory done.0 → ⊥) → NeedsMemory (unless_refused s refusal done).0 → (unless_refused s refusal done).1 ≡ s
 unmoved s (Some a) done ready needs = refl
@@ -41,7 +41,7 @@ unmoved_step s (Backup client policy schedule start) payload moment needs =
 unmoved_step s (Restore id copy) payload moment needs = unmoved s (first_refusal (restore_refusals (image_named id s.images) id copy)) (Done (bytes_of (image_named id s.images)), s) (λ none. none) needs
 unmoved_step s r payload moment needs = unmoved s (first_refusal (setting_refusals r s)) (Done [], set_by r s) (λ none. none) needs
 
-module _ (asked : Spoken) (input input' : Input) (ticks ticks' : Ticks) (g : Gathered) (payload : List ℕ) (same : payload ≡ g.payload) (gathers : Gathers (takes_payload asked.request) asked.moment input input' ticks ticks' g) where
+module _ (asked : TimedRequest) (input input' : Input) (ticks ticks' : Ticks) (g : Inputs) (payload : List ℕ) (same : payload ≡ g.payload) (gathers : Gathers (takes_payload asked.request) asked.moment input input' ticks ticks' g) where
   -- the payload is no site file
   pub no_file : (index : ℕ) → desk.IsOfRequest asked.request payload (BadRequest index) → IsNoFile asked input input' index
   no_file index kinds = record { load = kinds.0; first = kinds.1; payload = payload; given = subst (λ (x : List ℕ). IsGiven (takes_payload asked.request) x input input') (sym same) gathers.payload; none = kinds.2 }

@@ -16,9 +16,9 @@ use Rattle.desk_model.specs.Replay.{Mark, plain, memory, fault, Entry, answer_of
 use Rattle.site_desk.specs.Desk.{Answered, Moved, reached}
 use Rattle.site_desk.specs.Stands.{stands, Standing, StandsFor, Between}
 use Rattle.bp_cli.specs.Gather.{Gathers, IsGiven, IsUngathered}
-use Rattle.bp_cli.specs.Runs.{refused, carried, IsOfRequest, EndsBy, Ends, Obeys}
-use Rattle.bp_cli.specs.declared.gather.Gathered.{Gathered}
-use Rattle.bp_cli.specs.declared.words.Spoken.{Spoken}
+use Rattle.bp_cli.specs.Runs.{refused, carried, IsOfRequest, EndsBy, Ends, Executes}
+use Rattle.bp_cli.specs.declared.gather.Inputs.{Inputs}
+use Rattle.bp_cli.specs.declared.words.TimedRequest.{TimedRequest}
 
 abbrev pub mark_of : Answer → Mark
 mark_of OutOfMemory = memory
@@ -45,35 +45,35 @@ module _ (s : State) (r : Request) (payload : List ℕ) (moment : ℕ) where
   ended _ new d0 d1 standing moved between c left = (standing (λ z. absurd (cc z))).each c left ∙ ap (λ (x : State). Some (durable x)) moved
 
 -- it was carried out
-pub obeys_step : (s new : State) (asked : Spoken) (d0 d1 : Disk) (input input' : Input) (ticks ticks' : Ticks) (g : Gathered) (payload : List ℕ) (a : Answer) → payload ≡ g.payload → Gathers (takes_payload asked.request) asked.moment input input' ticks ticks' g → Answered s asked.request payload g.moment a → (a ≢ DiskFault → Standing d1 new)
-    → Moved s asked.request payload g.moment a new → Between s (reached s asked.request payload g.moment a) d0 d1 → Obeys s asked d0 d1 input input' ticks ticks' a
-obeys_step s new asked d0 d1 input input' ticks ticks' g payload a is gathers answered standing moved between = record {
+pub executes_step : (s new : State) (asked : TimedRequest) (d0 d1 : Disk) (input input' : Input) (ticks ticks' : Ticks) (g : Inputs) (payload : List ℕ) (a : Answer) → payload ≡ g.payload → Gathers (takes_payload asked.request) asked.moment input input' ticks ticks' g → Answered s asked.request payload g.moment a → (a ≢ DiskFault → Standing d1 new)
+    → Moved s asked.request payload g.moment a new → Between s (reached s asked.request payload g.moment a) d0 d1 → Executes s asked d0 d1 input input' ticks ticks' a
+executes_step s new asked d0 d1 input input' ticks ticks' g payload a is gathers answered standing moved between = record {
   outcome = carried (entry_of s asked.request payload g.moment a);
-  obeyed = (refl, subst (λ (x : List ℕ). IsGiven (takes_payload asked.request) x input input') (sym is) gathers.payload, subst (λ (x : List ℕ). length x ≤ payload_limit) (sym is) gathers.short, gathers.moment);
+  executed = (refl, subst (λ (x : List ℕ). IsGiven (takes_payload asked.request) x input input') (sym is) gathers.payload, subst (λ (x : List ℕ). length x ≤ payload_limit) (sym is) gathers.short, gathers.moment);
   is = marked s asked.request payload g.moment a answered;
   now = ended s asked.request payload g.moment a new d0 d1 standing moved between;
   during = weaker d0 d1 (λ c b. StandsFor s (reached s asked.request payload g.moment a) c × (b ≡ d0.sent)) (λ c b. ((stands c ≡ Some (durable s)) ⊎ Ends s (carried (entry_of s asked.request payload g.moment a)) c) × (b ≡ d0.sent)) (λ c b left. (before_or_after s asked.request payload g.moment a c left.0, left.1)) between.during;
 }
 
 -- nothing was
-pub obeys_refused : (s : State) (asked : Spoken) (d : Disk) (input input' : Input) (ticks ticks' : Ticks) (a : Answer) → IsUngathered (takes_payload asked.request) a input → Standing d s → Obeys s asked d d input input' ticks ticks' a
-obeys_refused s asked d input input' ticks ticks' a ungathered standing = record {
+pub executes_refused : (s : State) (asked : TimedRequest) (d : Disk) (input input' : Input) (ticks ticks' : Ticks) (a : Answer) → IsUngathered (takes_payload asked.request) a input → Standing d s → Executes s asked d d input input' ticks ticks' a
+executes_refused s asked d input input' ticks ticks' a ungathered standing = record {
   outcome = refused a;
-  obeyed = ungathered;
+  executed = ungathered;
   is = refl;
   now = λ c left. standing.each c left;
   during = started d (λ c b. ((stands c ≡ Some (durable s)) ⊎ Ends s (refused a) c) × (b ≡ d.sent));
 }
 
-pub ungathered_of_request : (asked : Spoken) (takes : Bool) (a : Answer) (input input' : Input) → IsUngathered takes a input → IsOfRequest asked input input' a
+pub ungathered_of_request : (asked : TimedRequest) (takes : Bool) (a : Answer) (input input' : Input) → IsUngathered takes a input → IsOfRequest asked input input' a
 ungathered_of_request asked takes (BadRequest index) input input' ungathered = absurd ungathered
 ungathered_of_request asked takes (NotAVault offset) input input' ungathered = ungathered
 ungathered_of_request asked takes SendFault input input' ungathered = ungathered
 ungathered_of_request asked takes _ input input' ungathered = tt
 
-pub none_unsent : (asked : Spoken) (input input' : Input) (a : Answer) → IsOfRequest asked input input' a → a ≢ SendFault
+pub none_unsent : (asked : TimedRequest) (input input' : Input) (a : Answer) → IsOfRequest asked input input' a → a ≢ SendFault
 none_unsent asked input input' a of_request is = subst (IsOfRequest asked input input') is of_request
 
 -- no other request than that of a site file is answered so
-pub none_bad : (asked : Spoken) (input input' : Input) (a : Answer) → IsOfRequest asked input input' a → asked.request ≢ Load → (index : ℕ) → a ≢ BadRequest index
+pub none_bad : (asked : TimedRequest) (input input' : Input) (a : Answer) → IsOfRequest asked input input' a → asked.request ≢ Load → (index : ℕ) → a ≢ BadRequest index
 none_bad asked input input' a of_request other index is = other (subst (IsOfRequest asked input input') is of_request).load

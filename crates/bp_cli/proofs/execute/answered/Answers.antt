@@ -7,14 +7,14 @@ use Rattle.desk_model.specs.State.{durable}
 use Rattle.bp_cli.specs.Runs.{Answers, word_refusal_of}
 use Rattle.bp_cli.specs.Causes.{IsCaused}
 use Rattle.bp_cli.proofs.Causing.{caused_words, caused_unopened, caused_opened}
-use Rattle.bp_cli.proofs.Obeying.{none_bad}
+use Rattle.bp_cli.proofs.Executing.{none_bad}
 use Rattle.bp_cli.proofs.Opened.{answers_untouched, answers_unopened, answers_opened, asked_words}
-use Rattle.bp_cli.specs.declared.words.Spoken.{Spoken}
-use Rattle.bp_cli.proofs.obey.answered.Goals as goal
+use Rattle.bp_cli.specs.declared.words.TimedRequest.{TimedRequest}
+use Rattle.bp_cli.proofs.execute.answered.Goals as goal
 
 pub returns-in-Err-clause-answers : goal.returns-in-Err-clause-answers
 returns-in-Err-clause-answers g c s told standing =
-    let asked = asked_words c.args.words.now (g.V.Vault.disk c.args.vault).seen (g.S.Source.input c.args.source.now) (g.S.Source.input c.args.source.now) (g.C.Clock.ticks c.args.clock.now) (g.C.Clock.ticks c.args.clock.now) c.in-Err.fault c.in-Err.ensures.spoken in
+    let asked = asked_words c.args.words.now (g.V.Vault.disk c.args.vault).seen (g.S.Source.input c.args.source.now) (g.S.Source.input c.args.source.now) (g.C.Clock.ticks c.args.clock.now) (g.C.Clock.ticks c.args.clock.now) c.in-Err.fault c.in-Err.ensures.read in
     subst (λ (a : Answer). Answers (durable s) c.args.words.now (g.V.Vault.disk c.args.vault) (g.V.Vault.disk c.args.vault) (g.S.Source.input c.args.source.now) (g.S.Source.input c.args.source.now) (g.C.Clock.ticks c.args.clock.now) (g.C.Clock.ticks c.args.clock.now) a) (sym c.word_refusal.ensures)
     (answers_untouched s c.args.words.now (g.V.Vault.disk c.args.vault) (g.S.Source.input c.args.source.now) (g.S.Source.input c.args.source.now) (g.C.Clock.ticks c.args.clock.now) (g.C.Clock.ticks c.args.clock.now) (word_refusal_of c.in-Err.fault) asked standing)
 
@@ -27,27 +27,27 @@ returns-clause-answers g c s told standing =
 pub returns-in-Err-clause-caused : goal.returns-in-Err-clause-caused
 returns-in-Err-clause-caused g c =
     subst (λ (a : Answer). IsCaused c.args.words.now (g.V.Vault.disk c.args.vault).tells (g.V.Vault.disk c.args.vault).seen (g.S.Source.input c.args.source.now) (g.S.Source.input c.args.source.now) (g.C.Clock.ticks c.args.clock.now) (g.C.Clock.ticks c.args.clock.now) a) (sym c.word_refusal.ensures)
-    (caused_words c.args.words.now (g.V.Vault.disk c.args.vault).tells (g.V.Vault.disk c.args.vault).seen (g.S.Source.input c.args.source.now) (g.S.Source.input c.args.source.now) (g.C.Clock.ticks c.args.clock.now) (g.C.Clock.ticks c.args.clock.now) c.in-Err.fault c.in-Err.ensures.spoken)
+    (caused_words c.args.words.now (g.V.Vault.disk c.args.vault).tells (g.V.Vault.disk c.args.vault).seen (g.S.Source.input c.args.source.now) (g.S.Source.input c.args.source.now) (g.C.Clock.ticks c.args.clock.now) (g.C.Clock.ticks c.args.clock.now) c.in-Err.fault c.in-Err.ensures.read)
 
 pub returns-clause-caused : goal.returns-clause-caused
 returns-clause-caused g c =
     subst (λ (a : Answer). IsCaused c.args.words.now (g.V.Vault.disk c.args.vault).tells (g.V.Vault.disk c.args.vault).seen (g.S.Source.input c.args.source.now) (g.S.Source.input c.args.source.now) (g.C.Clock.ticks c.args.clock.now) (g.C.Clock.ticks c.args.clock.now) a) (sym c.refusal.ensures)
-    (caused_unopened c.args.words.now (g.V.Vault.disk c.args.vault).tells (g.V.Vault.disk c.args.vault).seen (g.S.Source.input c.args.source.now) (g.S.Source.input c.args.source.now) (g.C.Clock.ticks c.args.clock.now) (g.C.Clock.ticks c.args.clock.now) c.in-Ok.spoken c.in-Err-open_vault.refused.1 c.in-Ok.ensures.spoken c.in-Err-open_vault.ensures.not_a_vault)
+    (caused_unopened c.args.words.now (g.V.Vault.disk c.args.vault).tells (g.V.Vault.disk c.args.vault).seen (g.S.Source.input c.args.source.now) (g.S.Source.input c.args.source.now) (g.C.Clock.ticks c.args.clock.now) (g.C.Clock.ticks c.args.clock.now) c.in-Ok.timed c.in-Err-open_vault.refused.1 c.in-Ok.ensures.read c.in-Err-open_vault.ensures.not_a_vault)
 
 pub returns-in-Ok-open_vault-clause-caused : goal.returns-in-Ok-open_vault-clause-caused
 returns-in-Ok-open_vault-clause-caused g c =
-    caused_opened c.args.words.now (g.V.Vault.disk c.args.vault).tells (g.V.Vault.disk c.in-Ok-open_vault.desk.vault).tells c.in-Ok-open_vault.ensures.same.tells (g.V.Vault.disk c.args.vault).seen (g.S.Source.input c.args.source.now) (g.S.Source.input c.obey-answer.new.source) (g.C.Clock.ticks c.args.clock.now) (g.C.Clock.ticks c.obey-answer.new.clock)
-    c.in-Ok.spoken c.in-Ok-open_vault.desk.state c.in-Ok.ensures.spoken (λ told. (c.in-Ok-open_vault.ensures.state told).0) c.obey-answer.result c.obey-answer.ensures.of_request c.obey-answer.ensures.caused
+    caused_opened c.args.words.now (g.V.Vault.disk c.args.vault).tells (g.V.Vault.disk c.in-Ok-open_vault.desk.vault).tells c.in-Ok-open_vault.ensures.same.tells (g.V.Vault.disk c.args.vault).seen (g.S.Source.input c.args.source.now) (g.S.Source.input c.execute-answer.new.source) (g.C.Clock.ticks c.args.clock.now) (g.C.Clock.ticks c.execute-answer.new.clock)
+    c.in-Ok.timed c.in-Ok-open_vault.desk.state c.in-Ok.ensures.read (λ told. (c.in-Ok-open_vault.ensures.state told).0) c.execute-answer.result c.execute-answer.ensures.of_request c.execute-answer.ensures.caused
 
 pub returns-in-Ok-open_vault-clause-bad_words : goal.returns-in-Ok-open_vault-clause-bad_words
 returns-in-Ok-open_vault-clause-bad_words g c =
-    subst (λ (r : Result Spoken ℕ). MatchResult r (λ said. said.request ≢ Load → (index : ℕ) → c.obey-answer.result ≢ BadRequest index) (λ index. (c.obey-answer.result ≡ BadRequest index) ⊎ (c.obey-answer.result ≡ OutOfMemory))) (sym c.in-Ok.ensures.spoken)
-    (none_bad c.in-Ok.spoken (g.S.Source.input c.args.source.now) (g.S.Source.input c.obey-answer.new.source) c.obey-answer.result c.obey-answer.ensures.of_request)
+    subst (λ (r : Result TimedRequest ℕ). MatchResult r (λ said. said.request ≢ Load → (index : ℕ) → c.execute-answer.result ≢ BadRequest index) (λ index. (c.execute-answer.result ≡ BadRequest index) ⊎ (c.execute-answer.result ≡ OutOfMemory))) (sym c.in-Ok.ensures.read)
+    (none_bad c.in-Ok.timed (g.S.Source.input c.args.source.now) (g.S.Source.input c.execute-answer.new.source) c.execute-answer.result c.execute-answer.ensures.of_request)
 
 pub returns-in-Ok-open_vault-clause-answers : goal.returns-in-Ok-open_vault-clause-answers
 returns-in-Ok-open_vault-clause-answers g c s told standing =
     let o = c.in-Ok-open_vault.ensures in
-    subst (λ (v : g.row.V.Denot). Answers (durable s) c.args.words.now (g.V.Vault.disk c.args.vault) (g.V.Vault.disk v) (g.S.Source.input c.args.source.now) (g.S.Source.input c.obey-answer.new.source) (g.C.Clock.ticks c.args.clock.now) (g.C.Clock.ticks c.obey-answer.new.clock) c.obey-answer.result) (sym c.close.ensures)
+    subst (λ (v : g.row.V.Denot). Answers (durable s) c.args.words.now (g.V.Vault.disk c.args.vault) (g.V.Vault.disk v) (g.S.Source.input c.args.source.now) (g.S.Source.input c.execute-answer.new.source) (g.C.Clock.ticks c.args.clock.now) (g.C.Clock.ticks c.execute-answer.new.clock) c.execute-answer.result) (sym c.close.ensures)
     (answers_opened s c.args.words.now (g.V.Vault.disk c.args.vault) (g.V.Vault.disk c.in-Ok-open_vault.desk.vault) standing (g.met.V.Vault.reads_count c.args.vault told) (o.stops told) o.same.sent
-    c.in-Ok.spoken c.in-Ok-open_vault.desk.state (g.V.Vault.disk c.obey-answer.new.desk.vault) (g.S.Source.input c.args.source.now) (g.S.Source.input c.obey-answer.new.source) (g.C.Clock.ticks c.args.clock.now) (g.C.Clock.ticks c.obey-answer.new.clock) c.obey-answer.result
-    c.in-Ok.ensures.spoken (o.state told).0 (c.obey-answer.ensures.obeys (o.same.tells told) (o.state told).1))
+    c.in-Ok.timed c.in-Ok-open_vault.desk.state (g.V.Vault.disk c.execute-answer.new.desk.vault) (g.S.Source.input c.args.source.now) (g.S.Source.input c.execute-answer.new.source) (g.C.Clock.ticks c.args.clock.now) (g.C.Clock.ticks c.execute-answer.new.clock) c.execute-answer.result
+    c.in-Ok.ensures.read (o.state told).0 (c.execute-answer.ensures.executes (o.same.tells told) (o.state told).1))
