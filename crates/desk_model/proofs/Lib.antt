@@ -1,5 +1,2 @@
-pub mod PieceLemmas
-pub mod ListLemmas
-pub mod SettingLemmas
-pub mod StateLemmas
-pub mod BackupLemmas
+mod Rows
+mod ClassLemmas

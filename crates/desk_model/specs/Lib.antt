@@ -6,4 +6,3 @@ pub mod Backups
 pub mod Settings
 pub mod Step
 pub mod Replay
-pub mod Plain

@@ -1,8 +1,9 @@
 -- The requests that change the site: units, clients, policies, schedules, the zone, and all of them from a site file.
-use Rattle.std.specs.Prelude.{ℕ, ℤ, Bool, true, false, is_some, if◌then◌else◌, List, [], ◌∷◌, ◌++◌, length, map, codes, Option, Some, None, find, Result, Ok, Err}
+use Rattle.std.specs.Prelude.{ℕ, ℤ, Bool, true, false, is_some, if◌then◌else◌, List, [], ◌∷◌, ◌++◌, length, map, codes, Option, Some, None, unwrap_or, find, Result, Ok, Err}
 use Rattle.std.specs.Fmt.{decimal}
 use Rattle.std.specs.Option.{option_map_or}
 use Rattle.std.specs.Str.{bytes_eq, is_utf8}
+use Rattle.site_types.specs.Classes.{class_of, is_site_change}
 use Rattle.site_types.specs.Ids.{id_text}
 use Rattle.site_types.specs.declared.image.ImageRecord.{ImageRecord}
 use Rattle.site_types.specs.declared.answer.Answer.{Answer}
@@ -12,17 +13,16 @@ use Rattle.site_types.specs.declared.request.Request.TheVariants.{UnitAdd, Clien
 use Rattle.schedule_windows.specs.Zones.{ZoneOf, FixedOffset, PosixRule}
 use Rattle.policy_book.specs.declared.fault.BookFault.{BookFault}
 use Rattle.policy_book.specs.declared.fault.BookFault.TheVariants as fault
-use Rattle.policy_book.specs.Requests.{is_of_book, refusals_of, book_after}
+use Rattle.policy_book.specs.Requests.{refusals_of, book_after}
 use Rattle.policy_book.specs.SiteFile.{site_requests}
 use Rattle.image_catalogue.specs.Images.{first_of_client, first_under}
 use Rattle.desk_model.specs.declared.site.Site.{Site}
 use Rattle.desk_model.specs.State.{State, Stored, Job, backup, entries}
-use Rattle.desk_model.specs.Refusals.{first_refusal, unless_refused}
+use Rattle.desk_model.specs.Refusals.{Case, first_refusal, step_of}
 
 -- it changes the book or the zone
 abbrev pub is_setting : Request → Bool
-is_setting (ZoneSet rule offset) = true
-is_setting request = is_of_book request
+is_setting request = is_site_change (class_of request)
 
 -- what the book's refusals are answered
 abbrev pub refusal_answer : BookFault → Answer
@@ -49,7 +49,7 @@ used_by name image job =
     ∷ (is_some job, answer.InUse name (codes "job " ++ option_map_or (λ j. decimal j.0) job []))
     ∷ []
 
--- a client and a policy are in use by what was made for them, or is being made
+-- A client and a policy are in use by what was made for them, or is being made. Every other request is refused by the book alone.
 abbrev pub use_refusals : Request → State → List (Bool × Answer)
 use_refusals (ClientRemove name) s = used_by name (first_of_client name (entries s.images)) (find (is_of_client name) s.jobs)
 use_refusals (PolicyRemove policy) s = used_by policy (first_under policy (entries s.images)) (find (is_under policy) s.jobs)
@@ -65,11 +65,16 @@ zone_given (Some rule) offset = PosixRule rule
 zone_given None (Some seconds) = FixedOffset seconds
 zone_given None None = PosixRule (codes "UTC0")
 
-abbrev pub site_after : Request → Site → Site
-site_after (ZoneSet rule offset) site = record site { zone = zone_given rule offset }
-site_after request site = record site { book = book_after request site.book }
+-- the zone that a request sets, where it sets one
+abbrev pub zone_set : Request → Option ZoneOf
+zone_set (ZoneSet rule offset) = Some (zone_given rule offset)
+zone_set _ = None
 
--- a unit that is added has nothing stored on it
+-- The book is left by what isn't a change of it, and the zone by what sets none.
+abbrev pub site_after : Request → Site → Site
+site_after request site = record { book = book_after request site.book; zone = unwrap_or (zone_set request) site.zone }
+
+-- A unit that is added has nothing stored on it. No other request adds one.
 abbrev pub stored_after : Request → List Stored → List Stored
 stored_after (UnitAdd name capacity segment fragment slots high low) stored = stored ++ record { unit = name; pieces = [] } ∷ []
 stored_after _ stored = stored
@@ -78,8 +83,11 @@ stored_after _ stored = stored
 abbrev pub set_by : Request → State → State
 set_by request s = record s { site = site_after request s.site; stored = stored_after request s.stored }
 
+abbrev pub setting_case : Request → State → Case
+setting_case request s = record { refusals = setting_refusals request s; shown = []; answer = answer.Done []; after = set_by request s }
+
 abbrev pub setting_step : Request → State → Answer × State
-setting_step request s = unless_refused s (first_refusal (setting_refusals request s)) (answer.Done [], set_by request s)
+setting_step request s = step_of s (setting_case request s)
 
 -- The requests of a site file, one after another: the state after all of them, or what the first that is refused is answered.
 abbrev pub all_set : List Request → State → Result State Answer
@@ -90,17 +98,35 @@ all_set (request ∷ requests) s = option_map_or (λ a. Err a) (first_refusal (s
 abbrev pub count_text : List Request → List ℕ
 count_text requests = decimal (length requests) ++ codes "\n"
 
+-- the first of them that is refused
+abbrev pub refused_of : Result State Answer → List (Bool × Answer)
+refused_of (Ok t) = []
+refused_of (Err refusal) = (true, refusal) ∷ []
+
+abbrev pub state_of : State → Result State Answer → State
+state_of s (Ok t) = t
+state_of s (Err refusal) = s
+
+abbrev pub load_case : List Request → State → Result State Answer → Case
+load_case requests s result = record { refusals = []; shown = refused_of result; answer = answer.Done (count_text requests); after = state_of s result }
+
 abbrev pub load_result : List Request → State → Result State Answer → Answer × State
-load_result requests s (Ok t) = (answer.Done (count_text requests), t)
-load_result requests s (Err refusal) = (refusal, s)
+load_result requests s result = step_of s (load_case requests s result)
 
 -- the requests of a payload, where it is a site file
 abbrev pub file_requests : List ℕ → Option (List Request)
 file_requests payload = if is_utf8 payload then site_requests payload else None
 
+-- what only the bytes of a payload show: that it is no site file, or what the first refused of its requests is answered
+abbrev pub file_refusals : Option (List Request) → State → List (Bool × Answer)
+file_refusals None s = (true, answer.BadRequest 1) ∷ []
+file_refusals (Some requests) s = refused_of (all_set requests s)
+
+abbrev pub file_case : Option (List Request) → State → Case
+file_case requests s = record (load_case (unwrap_or requests []) s (all_set (unwrap_or requests []) s)) { shown = file_refusals requests s }
+
 abbrev pub load_of : Option (List Request) → State → Answer × State
-load_of None s = (answer.BadRequest 1, s)
-load_of (Some requests) s = load_result requests s (all_set requests s)
+load_of requests s = step_of s (file_case requests s)
 
 abbrev pub load_step : List ℕ → State → Answer × State
 load_step payload s = load_of (file_requests payload) s

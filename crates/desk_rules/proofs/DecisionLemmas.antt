@@ -3,40 +3,36 @@ use Rattle.std.proofs.Common.{◌≡◌, ◌∙◌, ℕ, suc, Bool, true, false,
 use Rattle.std.proofs.lemmas.List.{length-map, length-replicate}
 use Rattle.std.specs.Prelude.{unwrap_or, option_map, find, Contains, IfOk}
 use Rattle.std.specs.declared.alloc.AllocError.{AllocError}
+use Rattle.site_types.specs.Classes.{RequestClass, site_change, site_file, backup, restore, class_of}
 use Rattle.site_types.specs.declared.answer.Answer.{Answer}
 use Rattle.site_types.specs.declared.answer.Answer.TheVariants.{Done}
 use Rattle.site_types.specs.declared.id.BackupId.{BackupId}
 use Rattle.site_types.specs.declared.image.ImageRecord.{ImageRecord}
 use Rattle.site_types.specs.declared.request.Request.{Request}
-use Rattle.site_types.specs.declared.request.Request.TheVariants as request
+use Rattle.site_types.specs.declared.request.Request.TheVariants.{ClientRemove, PolicyRemove}
 use Rattle.site_types.specs.declared.schedule.Start.{Start}
 use Rattle.image_catalogue.specs.Images.{first_of_client, first_under, record_named, same_id}
 use Rattle.policy_book.specs.Book.{adhoc}
 use Rattle.policy_book.specs.Requests.{refusals_of}
 use Rattle.desk_model.specs.declared.site.Site.{Site}
 use Rattle.desk_model.specs.State.{State, Image, entries, image_named}
-use Rattle.desk_model.specs.Refusals.{first_refusal, unless_refused}
-use Rattle.desk_model.specs.Backups.{Asked, asked_of, backup_done, backup_refusals, client_refusals, policy_asked}
-use Rattle.desk_model.specs.Settings.{is_of_client, is_under, set_by, setting_refusals, use_refusals, used_by}
-use Rattle.desk_model.specs.Step.{bytes_of, restore_refusals}
+use Rattle.desk_model.specs.Refusals.{first_refusal}
+use Rattle.desk_model.specs.Backups.{Asked, asked_of, backup_refusals, client_refusals, policy_asked}
+use Rattle.desk_model.specs.Settings.{is_of_client, is_under, setting_refusals, use_refusals, used_by}
+use Rattle.desk_model.specs.Step.{restore_refusals}
 use Rattle.desk_rules.specs.declared.decision.Change.{Change}
-use Rattle.desk_rules.specs.declared.decision.Change.TheVariants.{Nothing, SealNow, Settings}
+use Rattle.desk_rules.specs.declared.decision.Change.TheVariants.{Load, Nothing, SealNow, Settings}
 use Rattle.desk_rules.specs.declared.decision.Decision.{Decision}
-use Rattle.desk_rules.specs.Decisions.{IsDecision, IsSameUpToBody, IsStateOf, backup_body, unless}
+use Rattle.desk_rules.specs.Decisions.{Decides, DecidesAs, IsChange, IsDecision, IsStateOf, backup_body}
 use Rattle.desk_rules.specs.Refusing.{settled}
 use Rattle.desk_rules.specs.Seen.{backup_answer, blank, room_under, seen}
 use Rattle.desk_rules.proofs.RefusalLemmas.{answered}
 use Rattle.desk_rules.proofs.SeenLemmas.{entries_seen}
 
--- What is settled.
-
-settled_answer : (o : Option Answer) (answer : Answer) (change : Change) (s t : State) → (settled o answer change).answer ≡ (unless_refused s o (answer, t)).0
-settled_answer None answer change s t = refl
-settled_answer (Some refusal) answer change s t = refl
-
-settled_change : (o : Option Answer) (answer : Answer) (change : Change) → (settled o answer change).change ≡ unless o change
-settled_change None answer change = refl
-settled_change (Some refusal) answer change = refl
+-- What is settled is decided.
+settled_as : (o : Option Answer) (answer : Answer) (change : Change) (IsMade : Change → Type 0) (d : Decision) → d ≡ settled o answer change → IsMade change → DecidesAs o answer IsMade d
+settled_as (Some refusal) answer change IsMade d is made = (ap (λ (e : Decision). e.answer) is, ap (λ (e : Decision). e.change) is)
+settled_as None answer change IsMade d is made = (ap (λ (e : Decision). e.answer) is, subst IsMade (sym (ap (λ (e : Decision). e.change) is)) made)
 
 -- A state with this site and these images.
 abbrev with_images : Site → List Image → State
@@ -63,26 +59,17 @@ settled_seen asked moment site records s is =
     sym ((λ j. backup_settled asked moment (record s { site = is.site_is j; jobs = is.idle j }))
     ∙ ap (λ (rs : List (Bool × Answer)). settled (first_refusal rs) (backup_answer asked moment (seen site records)) (SealNow (backup_body asked moment (seen site records)))) (refusals_seen asked moment site s.images records is.images_are))
 
-backup_is : (asked : Asked) (bytes : List ℕ) (moment : ℕ) (s : State) (client : List ℕ) (policy schedule : Option (List ℕ)) (start : Option Start) (d : Decision) → asked ≡ asked_of client policy schedule start (length bytes) → d ≡ backup_settled asked moment s → IsDecision s (request.Backup client policy schedule start) bytes moment d
-backup_is asked bytes moment s client policy schedule start d is made =
-    let named = asked_of client policy schedule start (length bytes) in
-    let refusal = first_refusal (backup_refusals named moment s) in
-    let answer = backup_answer named moment s in
-    let change = SealNow (backup_body named moment s) in
-    let same : d ≡ backup_settled named moment s = made ∙ ap (λ (a : Asked). backup_settled a moment s) is in (
-      ap (λ (e : Decision). e.answer) same ∙ settled_answer refusal answer change s (backup_done named bytes moment s).1,
-      ap (λ (e : Decision). e.change) same ∙ settled_change refusal answer change,
-    )
-
-pub backup_decided : (site : Site) (records : List ImageRecord) (asked_for : Request) (asked : Asked) (payload moment : ℕ) (client : List ℕ) (policy schedule : Option (List ℕ)) (start : Option Start) (result : Result Decision AllocError)
-    → asked_for ≡ request.Backup client policy schedule start
+pub backup_decided : (site : Site) (records : List ImageRecord) (request : Request) (asked : Asked) (payload moment : ℕ) (client : List ℕ) (policy schedule : Option (List ℕ)) (start : Option Start) (result : Result Decision AllocError)
+    → backup client policy schedule start ≡ class_of request
     → asked ≡ asked_of client policy schedule start payload
     → IfOk result (λ d. d ≡ backup_settled asked moment (seen site records))
-    → (s : State) (bytes : List ℕ) → IsStateOf site records s → length bytes ≡ payload → IfOk result (IsDecision s asked_for bytes moment)
-backup_decided site records asked_for asked payload moment client policy schedule start (Err e) is made settles s bytes state size = tt
-backup_decided site records asked_for asked payload moment client policy schedule start (Ok d) is made settles s bytes state size =
-    subst (λ (r : Request). IsDecision s r bytes moment d) (sym is)
-    (backup_is asked bytes moment s client policy schedule start d (made ∙ ap (asked_of client policy schedule start) (sym size)) (settles ∙ settled_seen asked moment site records s state))
+    → (s : State) (bytes : List ℕ) → IsStateOf site records s → length bytes ≡ payload → IfOk result (IsDecision s request bytes moment)
+backup_decided site records request asked payload moment client policy schedule start (Err e) is made settles s bytes state size = tt
+backup_decided site records request asked payload moment client policy schedule start (Ok d) is made settles s bytes state size =
+    let named = asked_of client policy schedule start (length bytes) in
+    let same : d ≡ backup_settled named moment s = settles ∙ settled_seen asked moment site records s state ∙ ap (λ (a : Asked). backup_settled a moment s) (made ∙ ap (asked_of client policy schedule start) (sym size)) in
+    subst (λ (class : RequestClass). Decides s class bytes moment d) is
+    (settled_as (first_refusal (backup_refusals named moment s)) (backup_answer named moment s) (SealNow (backup_body named moment s)) (IsChange s (backup client policy schedule start) bytes moment) d same refl)
 
 -- Restores.
 
@@ -101,59 +88,38 @@ restores_seen id copy (i ∷ images) sized =
     first_seen id copy (same_id i.entry.id id) i (image_named id images) (record_named id (entries images)) (sized i (0, omega arith, refl))
     (restores_seen id copy images (λ x at. sized x (suc at.0, omega (arith, at.1), at.2)))
 
-same_answer : (a : Answer) → IsSameUpToBody a a
-same_answer (Done body) = tt
-same_answer _ = refl
-
-restore_is : (o : Option Answer) (body : List ℕ) (s : State) → IsSameUpToBody (settled o (Done []) Nothing).answer (unless_refused s o (Done body, s)).0 × ((settled o (Done []) Nothing).change ≡ Nothing)
-restore_is None body s = (tt, refl)
-restore_is (Some refusal) body s = (same_answer refusal, refl)
-
-pub restore_decided : (site : Site) (records : List ImageRecord) (asked_for : Request) (payload moment : ℕ) (id : BackupId) (copy : Option ℕ) (result : Result Decision AllocError)
-    → asked_for ≡ request.Restore id copy
+pub restore_decided : (site : Site) (records : List ImageRecord) (request : Request) (payload moment : ℕ) (id : BackupId) (copy : Option ℕ) (result : Result Decision AllocError)
+    → restore id copy ≡ class_of request
     → IfOk result (λ d. d ≡ settled (first_refusal (restore_refusals (option_map blank (record_named id records)) id copy)) (Done []) Nothing)
-    → (s : State) (bytes : List ℕ) → IsStateOf site records s → length bytes ≡ payload → IfOk result (IsDecision s asked_for bytes moment)
-restore_decided site records asked_for payload moment id copy (Err e) is settles s bytes state size = tt
-restore_decided site records asked_for payload moment id copy (Ok d) is settles s bytes state size =
-    let image = image_named id s.images in
+    → (s : State) (bytes : List ℕ) → IsStateOf site records s → length bytes ≡ payload → IfOk result (IsDecision s request bytes moment)
+restore_decided site records request payload moment id copy (Err e) is settles s bytes state size = tt
+restore_decided site records request payload moment id copy (Ok d) is settles s bytes state size =
     let refusals = restores_seen id copy s.images state.sized ∙ ap (λ (rs : List ImageRecord). restore_refusals (option_map blank (record_named id rs)) id copy) state.images_are in
-    let same : settled (first_refusal (restore_refusals image id copy)) (Done []) Nothing ≡ d = ap (λ (rs : List (Bool × Answer)). settled (first_refusal rs) (Done []) Nothing) refusals ∙ sym settles in
-    subst (λ (r : Request). IsDecision s r bytes moment d) (sym is)
-    (subst (λ (e : Decision). IsDecision s (request.Restore id copy) bytes moment e) same
-    (restore_is (first_refusal (restore_refusals image id copy)) (bytes_of image) s))
+    subst (λ (class : RequestClass). Decides s class bytes moment d) is
+    (settled_as (first_refusal (restore_refusals (image_named id s.images) id copy)) (Done []) Nothing (IsChange s (restore id copy) bytes moment) d
+    (settles ∙ ap (λ (rs : List (Bool × Answer)). settled (first_refusal rs) (Done []) Nothing) (sym refusals)) refl)
 
 -- Changes of the site.
 
-use_seen : (asked_for : Request) (site : Site) (records : List ImageRecord) (s : State) → IsStateOf site records s → use_refusals asked_for s ≡ use_refusals asked_for (seen site records)
-use_seen (request.ClientRemove name) site records s is = λ j. used_by name (first_of_client name ((is.images_are ∙ sym (entries_seen records)) j)) (find (is_of_client name) (is.idle j))
-use_seen (request.PolicyRemove policy) site records s is = λ j. used_by policy (first_under policy ((is.images_are ∙ sym (entries_seen records)) j)) (find (is_under policy) (is.idle j))
+use_seen : (request : Request) (site : Site) (records : List ImageRecord) (s : State) → IsStateOf site records s → use_refusals request s ≡ use_refusals request (seen site records)
+use_seen (ClientRemove name) site records s is = λ j. used_by name (first_of_client name ((is.images_are ∙ sym (entries_seen records)) j)) (find (is_of_client name) (is.idle j))
+use_seen (PolicyRemove policy) site records s is = λ j. used_by policy (first_under policy ((is.images_are ∙ sym (entries_seen records)) j)) (find (is_under policy) (is.idle j))
 use_seen _ site records s is = refl
 
-settings_seen : (asked_for : Request) (site : Site) (records : List ImageRecord) (s : State) → IsStateOf site records s → setting_refusals asked_for s ≡ setting_refusals asked_for (seen site records)
-settings_seen asked_for site records s is = λ j. answered (refusals_of asked_for (is.site_is j).book) ++ use_seen asked_for site records s is j
+settings_seen : (request : Request) (site : Site) (records : List ImageRecord) (s : State) → IsStateOf site records s → setting_refusals request s ≡ setting_refusals request (seen site records)
+settings_seen request site records s is = λ j. answered (refusals_of request (is.site_is j).book) ++ use_seen request site records s is j
 
-setting_is : (asked_for : Request) (s : State) (bytes : List ℕ) (moment : ℕ) (d : Decision)
-    → (asked_for ≡ request.Load → ⊥)
-    → ((client : List ℕ) (policy schedule : Option (List ℕ)) (start : Option Start) → asked_for ≡ request.Backup client policy schedule start → ⊥)
-    → ((id : BackupId) (copy : Option ℕ) → asked_for ≡ request.Restore id copy → ⊥)
-    → d.answer ≡ (unless_refused s (first_refusal (setting_refusals asked_for s)) (Done [], set_by asked_for s)).0
-    → d.change ≡ unless (first_refusal (setting_refusals asked_for s)) Settings
-    → IsDecision s asked_for bytes moment d
-setting_is request.Load s bytes moment d load backup restore answer change = absurd (load refl)
-setting_is (request.Backup client policy schedule start) s bytes moment d load backup restore answer change = absurd (backup client policy schedule start refl)
-setting_is (request.Restore id copy) s bytes moment d load backup restore answer change = absurd (restore id copy refl)
-setting_is _ s bytes moment d load backup restore answer change = (answer, change)
+pub setting_decided : (site : Site) (records : List ImageRecord) (request change : Request) (payload moment : ℕ) (result : Result Decision AllocError)
+    → site_change change ≡ class_of request
+    → IfOk result (λ d. d ≡ settled (first_refusal (setting_refusals change (seen site records))) (Done []) Settings)
+    → (s : State) (bytes : List ℕ) → IsStateOf site records s → length bytes ≡ payload → IfOk result (IsDecision s request bytes moment)
+setting_decided site records request change payload moment (Err e) is settles s bytes state size = tt
+setting_decided site records request change payload moment (Ok d) is settles s bytes state size =
+    subst (λ (class : RequestClass). Decides s class bytes moment d) is
+    (settled_as (first_refusal (setting_refusals change s)) (Done []) Settings (IsChange s (site_change change) bytes moment) d
+    (settles ∙ ap (λ (rs : List (Bool × Answer)). settled (first_refusal rs) (Done []) Settings) (sym (settings_seen change site records s state))) refl)
 
-pub setting_decided : (site : Site) (records : List ImageRecord) (asked_for : Request) (payload moment : ℕ) (result : Result Decision AllocError)
-    → (asked_for ≡ request.Load → ⊥)
-    → ((client : List ℕ) (policy schedule : Option (List ℕ)) (start : Option Start) → asked_for ≡ request.Backup client policy schedule start → ⊥)
-    → ((id : BackupId) (copy : Option ℕ) → asked_for ≡ request.Restore id copy → ⊥)
-    → IfOk result (λ d. d ≡ settled (first_refusal (setting_refusals asked_for (seen site records))) (Done []) Settings)
-    → (s : State) (bytes : List ℕ) → IsStateOf site records s → length bytes ≡ payload → IfOk result (IsDecision s asked_for bytes moment)
-setting_decided site records asked_for payload moment (Err e) load backup restore settles s bytes state size = tt
-setting_decided site records asked_for payload moment (Ok d) load backup restore settles s bytes state size =
-    let refusal = first_refusal (setting_refusals asked_for s) in
-    let same : d ≡ settled refusal (Done []) Settings = settles ∙ ap (λ (rs : List (Bool × Answer)). settled (first_refusal rs) (Done []) Settings) (sym (settings_seen asked_for site records s state)) in
-    setting_is asked_for s bytes moment d load backup restore
-    (ap (λ (e : Decision). e.answer) same ∙ settled_answer refusal (Done []) Settings s (set_by asked_for s))
-    (ap (λ (e : Decision). e.change) same ∙ settled_change refusal (Done []) Settings)
+-- Site files.
+
+pub file_decided : (request : Request) (payload moment : ℕ) (d : Decision) → site_file ≡ class_of request → d.answer ≡ Done [] → d.change ≡ Load → (s : State) (bytes : List ℕ) → length bytes ≡ payload → IsDecision s request bytes moment d
+file_decided request payload moment d is answer change s bytes size = subst (λ (class : RequestClass). Decides s class bytes moment d) is (answer, change)

@@ -1,18 +1,17 @@
 -- What a request is answered and what it changes, up to what bytes decide.
 use Rattle.std.specs.Prelude.{◌≡◌, ℕ, List, [], length, Option, Some, None, unwrap_or, Contains}
+use Rattle.site_types.specs.Classes.{RequestClass, site_change, site_file, backup, restore, class_of}
 use Rattle.site_types.specs.declared.answer.Answer.{Answer}
 use Rattle.site_types.specs.declared.answer.Answer.TheVariants.{Done}
 use Rattle.site_types.specs.declared.image.ImageRecord.{ImageRecord}
 use Rattle.site_types.specs.declared.image.Base.TheVariants as base
 use Rattle.site_types.specs.declared.request.Request.{Request}
-use Rattle.site_types.specs.declared.request.Request.TheVariants as request
 use Rattle.policy_book.specs.Book.{adhoc, manual}
 use Rattle.desk_model.specs.declared.site.Site.{Site}
 use Rattle.desk_model.specs.State.{State, Image, entries}
 use Rattle.desk_model.specs.Refusals.{first_refusal}
-use Rattle.desk_model.specs.Backups.{Asked, asked_of, backup_refusals, latest_version, new_time, policy_asked, schedule_asked}
-use Rattle.desk_model.specs.Settings.{setting_refusals}
-use Rattle.desk_model.specs.Step.{step}
+use Rattle.desk_model.specs.Backups.{Asked, asked_of, latest_version, new_time, policy_asked, schedule_asked}
+use Rattle.desk_model.specs.Step.{case_of}
 use Rattle.desk_rules.specs.declared.decision.JobBody.{JobBody}
 use Rattle.desk_rules.specs.declared.decision.JobBody.TheVariants.{Backup}
 use Rattle.desk_rules.specs.declared.decision.Change.{Change}
@@ -26,15 +25,17 @@ pub record IsStateOf (site : Site) (images : List ImageRecord) (s : State) : Typ
   pub sized : (i : Image) → Contains s.images i → i.entry.length ≡ length i.bytes
   pub idle : s.jobs ≡ []
 
--- two answers are the same, or both Done
-abbrev pub IsSameUpToBody : Answer → Answer → Type 0
-IsSameUpToBody (Done body) (Done other) = Unit {0}
-IsSameUpToBody a b = a ≡ b
+-- the body of an answer that is Done is left out
+abbrev pub without_body : Answer → Answer
+without_body (Done body) = Done []
+without_body answer = answer
 
--- nothing changes where there is a refusal
-abbrev pub unless : Option Answer → Change → Change
-unless (Some refusal) change = Nothing
-unless None change = change
+-- what a decision tells of an answer: the body that a site file or an image decides isn't looked at
+abbrev pub told : RequestClass → Answer → Answer
+told (site_change request) answer = answer
+told site_file answer = without_body answer
+told (backup client policy schedule start) answer = answer
+told (restore id copy) answer = without_body answer
 
 -- the image that a backup seals at once
 abbrev pub backup_body : Asked → ℕ → State → JobBody
@@ -43,14 +44,23 @@ backup_body asked moment s =
     let schedule = unwrap_or (schedule_asked asked s) manual in
     Backup (record { client = asked.client; time = new_time asked.client moment s }) policy.name schedule.name schedule.kind base.None policy.lifecycle (latest_version policy.lifecycle s.site.book) asked.size
 
-abbrev pub backup_change : Asked → ℕ → State → Change
-backup_change asked moment s = unless (first_refusal (backup_refusals asked moment s)) (SealNow (backup_body asked moment s))
+-- what a request of this class changes where nothing refuses it
+abbrev pub IsChange : State → RequestClass → List ℕ → ℕ → Change → Type 0
+IsChange s (site_change request) payload moment change = change ≡ Settings
+IsChange s site_file payload moment change = change ≡ Load
+IsChange s (backup client policy schedule start) payload moment change = change ≡ SealNow (backup_body (asked_of client policy schedule start (length payload)) moment s)
+IsChange s (restore id copy) payload moment change = change ≡ Nothing
 
--- a decision on a request that is given this payload at this moment
+-- a refusal, which changes nothing, or where there is none this answer and such a change
+abbrev pub DecidesAs : Option Answer → Answer → (Change → Type 0) → Decision → Type 0
+DecidesAs (Some refusal) answer IsMade d = (d.answer ≡ refusal) × (d.change ≡ Nothing)
+DecidesAs None answer IsMade d = (d.answer ≡ answer) × IsMade d.change
+
+-- a decision on a request of this class that is given this payload at this moment
+abbrev pub Decides : State → RequestClass → List ℕ → ℕ → Decision → Type 0
+Decides s class payload moment d =
+    let case = case_of s class payload moment in
+    DecidesAs (first_refusal case.refusals) (told class case.answer) (IsChange s class payload moment) d
+
 abbrev pub IsDecision : State → Request → List ℕ → ℕ → Decision → Type 0
-IsDecision s request.Load payload moment d = (d.answer ≡ Done []) × (d.change ≡ Load)
-IsDecision s (request.Backup client policy schedule start) payload moment d =
-    (d.answer ≡ (step s (request.Backup client policy schedule start) payload moment).0)
-    × (d.change ≡ backup_change (asked_of client policy schedule start (length payload)) moment s)
-IsDecision s (request.Restore id copy) payload moment d = IsSameUpToBody d.answer (step s (request.Restore id copy) payload moment).0 × (d.change ≡ Nothing)
-IsDecision s r payload moment d = (d.answer ≡ (step s r payload moment).0) × (d.change ≡ unless (first_refusal (setting_refusals r s)) Settings)
+IsDecision s request payload moment d = Decides s (class_of request) payload moment d

@@ -14,7 +14,7 @@ pub(crate) struct BackupAsked<'a> {
     pub policy: Name,
     pub schedule: Option<&'a Name>,
     pub start: Start,
-    pub size: u64,
+    pub length: u64,
 }
 
 impl<'a> BackupAsked<'a> {
@@ -25,16 +25,16 @@ impl<'a> BackupAsked<'a> {
         policy: Option<&Name>,
         schedule: Option<&'a Name>,
         start: Option<Start>,
-        size: u64,
+        length: u64,
     ) -> Result<BackupAsked<'a>, NoMemory>
-        ensures { IfOk result (λ asked. asked_by asked ≡ asked_of client.now (option_copied policy.entry) (option_map (λ s. s.now) schedule.entry) start size) }
+        ensures { IfOk result (λ asked. asked_by asked ≡ asked_of client.now (option_map (λ p. p.now) policy.entry) (option_map (λ s. s.now) schedule.entry) start length) }
     {
         Ok(BackupAsked {
             client,
             policy: named_or_adhoc(alloc, policy)?,
             schedule,
             start: start.unwrap_or(Start::Manual),
-            size,
+            length,
         })
     }
 }

@@ -44,7 +44,7 @@ pub(crate) fn check_room<'a>(
     let held = images.used(&unit.name);
     check_mark(alloc, &unit, held)?;
     check_time(alloc, site.book.last_of(asked.client), moment)?;
-    check_space(alloc, &unit, held, asked.size)?;
+    check_space(alloc, &unit, held, asked.length)?;
     Ok(schedule)
 }
 
@@ -215,14 +215,14 @@ fn check_time(alloc: Global, last: u64, moment: u64) -> Result<(), Refusal>
     Ok(())
 }
 
-fn check_space(alloc: Global, unit: &Unit, held: u64, size: u64) -> Result<(), Refusal>
-    ensures { Passes ((nat_lt unit.now.capacity (held + size), answer.UnitFull unit.now.name held size unit.now.capacity) ∷ []) result }
+fn check_space(alloc: Global, unit: &Unit, held: u64, length: u64) -> Result<(), Refusal>
+    ensures { Passes ((nat_lt unit.now.capacity (held + length), answer.UnitFull unit.now.name held length unit.now.capacity) ∷ []) result }
 {
-    if u128::from(held) + u128::from(size) > u128::from(unit.capacity) {
+    if u128::from(held) + u128::from(length) > u128::from(unit.capacity) {
         return Err(Refusal::Answered(Answer::UnitFull {
             unit: unit.name.copy(alloc)?,
             used: held,
-            length: size,
+            length,
             capacity: unit.capacity,
         }));
     }

@@ -42,7 +42,7 @@ pub(crate) fn decide_backup(
             Ok(Decision {
                 answer: id_answer(alloc, &id)?,
                 change: Change::SealNow {
-                    body: backup_body(alloc, site, id, policy, schedule, asked.size)?,
+                    body: backup_body(alloc, site, id, policy, schedule, asked.length)?,
                 },
             })
         }
@@ -95,9 +95,9 @@ fn backup_body(
     id: BackupId,
     policy: &Policy,
     schedule: &Schedule,
-    size: u64,
+    length: u64,
 ) -> Result<JobBody, NoMemory>
-    ensures { IfOk result (λ b. b ≡ body.Backup id policy.now.name schedule.now.name schedule.now.kind base.None policy.now.lifecycle (latest_version policy.now.lifecycle site.now.book) size) }
+    ensures { IfOk result (λ b. b ≡ body.Backup id policy.now.name schedule.now.name schedule.now.kind base.None policy.now.lifecycle (latest_version policy.now.lifecycle site.now.book) length) }
 {
     Ok(JobBody::Backup {
         id,
@@ -107,6 +107,6 @@ fn backup_body(
         base: Base::None,
         lifecycle: policy.lifecycle().copy(alloc)?,
         version: latest_version(&site.book, policy.lifecycle()),
-        length: size,
+        length,
     })
 }

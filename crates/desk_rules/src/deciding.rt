@@ -11,7 +11,7 @@ use crate::settings::decide_setting;
 use crate::{Change, Decision, NoMemory};
 use desk_model::Site;
 use image_catalogue::Catalogue;
-use site_types::{Answer, Request, Text};
+use site_types::{Answer, ByClass, Request, Text};
 use std::alloc::Global;
 
 /// What a request is answered at a moment, in seconds since 1970-01-01T00:00:00Z, and what it changes of a site with these
@@ -27,24 +27,23 @@ pub fn decide(
     requires { moment ≤ last_moment }
     ensures decided { (s : State) (bytes : List ℕ) → IsStateOf site.now images.now s → length bytes ≡ payload → IfOk result (IsDecision s request.now bytes moment) }
 {
-    match request {
-        Request::Load => Ok(Decision {
+    match request.by_class() {
+        ByClass::SiteChange(change) => decide_setting(alloc, site, images, change),
+        ByClass::SiteFile => Ok(Decision {
             answer: Answer::Done {
                 body: Text::from_vec(Vec::new(alloc)),
             },
             change: Change::Load,
         }),
-        Request::Backup {
+        ByClass::Backup {
             client,
             policy,
             schedule,
             start,
         } => {
-            let (policy, schedule) = (policy.as_ref(), schedule.as_ref());
-            let asked = BackupAsked::new(alloc, client, policy, schedule, *start, payload)?;
+            let asked = BackupAsked::new(alloc, client, policy, schedule, start, payload)?;
             decide_backup(alloc, site, images, &asked, moment)
         }
-        Request::Restore { id, copy } => decide_restore(alloc, images, id, *copy),
-        _ => decide_setting(alloc, site, images, request),
+        ByClass::Restore { id, copy } => decide_restore(alloc, images, id, copy),
     }
 }

@@ -4,8 +4,6 @@
 mod calendar;
 mod civil;
 mod next;
-#[cfg(test)]
-mod plain;
 mod rule;
 mod schedule;
 #[cfg(test)]

@@ -1,0 +1,94 @@
+-- Rows of the table of requests, worked out on the definitions: both sides of each equation compute to one value.
+use Rattle.std.proofs.Common.{◌≡◌, ℕ, refl, [], ◌∷◌, codes, false}
+use Rattle.std.specs.Fmt.{digits}
+use Rattle.std.specs.Prelude.{Option, Some, None, replicate}
+use Rattle.site_types.specs.declared.answer.Answer.{Answer}
+use Rattle.site_types.specs.declared.answer.Answer.TheVariants.{Done, Exists, Unknown, InUse, Inactive, WindowClosed, AboveHigh, UnitFull}
+use Rattle.site_types.specs.declared.id.BackupId.{BackupId}
+use Rattle.site_types.specs.declared.request.Request.{Request}
+use Rattle.site_types.specs.declared.request.Request.TheVariants.{UnitChange, ClientAdd, ClientRemove, PolicyChange, PolicyRemove, Backup, Restore}
+use Rattle.site_types.specs.declared.schedule.Start.TheVariants.{Scheduled}
+use Rattle.desk_model.specs.State.{State, initial}
+use Rattle.desk_model.specs.Settings.{load_of}
+use Rattle.desk_model.specs.Step.{step}
+
+-- what is answered, and the state afterwards, of a request with no payload at moment 1000
+abbrev answer : State → Request → Answer
+answer s request = (step s request [] 1000).0
+
+abbrev after : State → Request → State
+after s request = (step s request [] 1000).1
+
+-- a backup of alpha by hand
+abbrev backup : Request
+backup = Backup (codes "alpha") None None None
+
+abbrev first_id : BackupId
+first_id = record { client = codes "alpha"; time = 1000 }
+
+abbrev backed_up : State
+backed_up = (step initial backup (codes "hello") 1000).1
+
+first_backup : (step initial backup (codes "hello") 1000).0 ≡ Done (codes "alpha_1000\n")
+unfolding digits
+first_backup = refl
+
+-- its id is one second past that of the first
+second_backup : (step backed_up backup (codes "hello") 1000).0 ≡ Done (codes "alpha_1001\n")
+unfolding digits
+second_backup = refl
+
+given_back : answer backed_up (Restore first_id None) ≡ Done (codes "hello")
+given_back = refl
+
+no_image : answer initial (Restore first_id None) ≡ Unknown (codes "alpha_1000")
+unfolding digits
+no_image = refl
+
+no_copy : answer backed_up (Restore first_id (Some 2)) ≡ Unknown (codes "alpha_1000/2")
+unfolding digits
+no_copy = refl
+
+added : answer initial (ClientAdd (codes "a")) ≡ Done []
+added = refl
+
+added_twice : answer (after initial (ClientAdd (codes "a"))) (ClientAdd (codes "a")) ≡ Exists (codes "a")
+added_twice = refl
+
+not_there : answer initial (ClientRemove (codes "b")) ≡ Unknown (codes "b")
+not_there = refl
+
+in_use : answer backed_up (ClientRemove (codes "alpha")) ≡ InUse (codes "alpha") (codes "alpha_1000")
+unfolding digits
+in_use = refl
+
+built_in : answer initial (PolicyRemove (codes "adhoc")) ≡ InUse (codes "adhoc") (codes "desk")
+built_in = refl
+
+closed : answer initial (Backup (codes "a") (Some (codes "adhoc")) None (Some Scheduled)) ≡ WindowClosed (codes "manual")
+closed = refl
+
+inactive : answer (after initial (PolicyChange (codes "adhoc") (Some false) None)) backup ≡ Inactive (codes "adhoc")
+inactive = refl
+
+-- a unit of a hundred bytes that holds so many
+abbrev holding : ℕ → Option ℕ → State
+holding count high = (step (after initial (UnitChange (codes "disk0") (Some 100) None high None)) backup (replicate count 0) 1000).1
+
+full : (step (holding 40 None) backup (replicate 61 0) 1000).0 ≡ UnitFull (codes "disk0") 40 61 100
+full = refl
+
+exactly_full : (step (holding 40 None) backup (replicate 60 0) 1000).0 ≡ Done (codes "alpha_1001\n")
+unfolding digits
+exactly_full = refl
+
+above_high : (step (holding 80 (Some 80)) backup (replicate 1 0) 1000).0 ≡ AboveHigh (codes "disk0") 80 100
+above_high = refl
+
+below_high : (step (holding 79 (Some 80)) backup (replicate 1 0) 1000).0 ≡ Done (codes "alpha_1001\n")
+unfolding digits
+below_high = refl
+
+-- a site file whose second request repeats its first leaves the state as it was
+repeated : load_of (Some (ClientAdd (codes "a") ∷ ClientAdd (codes "a") ∷ [])) initial ≡ (Exists (codes "a"), initial)
+repeated = refl
