@@ -13,8 +13,6 @@ mod last_times;
 mod refusal;
 mod restores;
 mod settings;
-#[cfg(test)]
-mod tests;
 
 pub use deciding::decide;
 pub use decision::{Change, Decision, JobBody};
