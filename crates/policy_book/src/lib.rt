@@ -37,5 +37,3 @@ pub use units::{NewUnit, UnitChange};
 /// No memory was left.
 pub type NoMemory = std::alloc::AllocError;
 
-#[cfg(test)]
-mod tests;
