@@ -32,23 +32,3 @@ policy_in_place b now name change i x new is rising at found made =
     (changed_in_place policy_name b.policies.items name change i x new rising
     (stands_as policy_name b.policies.items now.policies name name i (ap (λ (c : Book). c.policies) (sym is)) refl at) found made)
     ∙ ap (with_policy name change) is
-
--- The changes of a policy.
-
-abbrev pub with_listed : List ℕ → Policy → Policy
-with_listed client p = record p { clients = put itself client p.clients }
-
-abbrev pub without_listed : List ℕ → Policy → Policy
-without_listed client p = record p { clients = without itself client p.clients }
-
-abbrev pub with_path : List ℕ → Policy → Policy
-with_path path p = record p { selections = p.selections ++ path ∷ [] }
-
-abbrev pub without_path : List ℕ → Policy → Policy
-without_path path p = record p { selections = filter (λ s. not (bytes_eq s path)) p.selections }
-
-abbrev pub with_schedule : Schedule → Policy → Policy
-with_schedule schedule p = record p { schedules = put schedule_name schedule p.schedules }
-
-abbrev pub without_schedule : List ℕ → Policy → Policy
-without_schedule schedule p = record p { schedules = without schedule_name schedule p.schedules }

@@ -85,7 +85,6 @@ fn a_sealed_client_is_there(rt: HostRuntime) -> Result<(), BookFault> {
     let client = name(&rt, b"mail")?;
     book.seal_client(rt.alloc(), &client, 7)?;
     assert_eq!(rt; book.last_of(&client), 7);
-    book.may_remove_client(rt.alloc(), &client)?;
     Ok(())
 }
 
