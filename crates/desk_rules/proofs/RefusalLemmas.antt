@@ -5,8 +5,7 @@ use Rattle.std.specs.declared.alloc.AllocError.{AllocError}
 use Rattle.site_types.specs.declared.answer.Answer.{Answer}
 use Rattle.policy_book.specs.declared.fault.BookFault.{BookFault}
 use Rattle.policy_book.specs.declared.fault.BookFault.TheVariants as fault
-use Rattle.policy_book.specs.Changes.{first_refusal as book_refusal}
-use Rattle.policy_book.specs.Refusals.{Allows}
+use Rattle.policy_book.specs.Refusals.{Allows, first_refusal as book_refusal}
 use Rattle.desk_model.specs.Refusals.{first_refusal}
 use Rattle.desk_model.specs.Settings.{refusal_answer}
 use Rattle.desk_rules.specs.declared.refusal.Refusal.{Refusal}
