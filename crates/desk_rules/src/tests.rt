@@ -4,8 +4,8 @@ use desk_model::Site;
 use image_catalogue::Catalogue;
 use policy_book::Book;
 use schedule_windows::Zone;
-use site_types::{Kind, Mode, Name, PolicyType, Request, Schedule, Windows};
-use std::alloc::Global;
+use site_types::{Kind, Mode, Name, PolicyType, Request, Schedule, Text, Windows};
+use std::alloc::{AllocError, Global};
 use std::process::Abort;
 
 fn name(rt: &(impl Abort + Alloc<A = Global>), text: &[u8]) -> Result<Name, NoMemory> {
@@ -64,11 +64,12 @@ fn a_client_without_images_is_due(rt: HostRuntime) -> Result<(), NoMemory> {
 fn a_backup_on_a_new_site_is_sealed(rt: HostRuntime) -> Result<(), NoMemory> {
     let alloc = rt.alloc();
     let site = new_site(&rt)?;
-    let request = Request::Backup {
-        client: name(&rt, b"alice")?,
-        policy: None,
-        schedule: None,
-        start: None,
+    let words = [
+        Text::new(alloc, b"bpbackup")?,
+        Text::new(alloc, b"client=alice")?,
+    ];
+    let Ok(request) = Request::read(alloc, &words) else {
+        return Err(AllocError);
     };
     let images = Catalogue::new(alloc);
     let decision = decide(alloc, &site, &images, &request, 5, 1_800_000_000)?;

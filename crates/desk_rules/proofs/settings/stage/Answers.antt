@@ -1,3 +1,4 @@
+use Rattle.std.proofs.Common.{rules}
 use Rattle.policy_book.specs.Requests.{refusals_of}
 use Rattle.desk_model.specs.Settings.{use_refusals}
 use Rattle.desk_rules.specs.Seen.{seen}
