@@ -13,9 +13,15 @@ mod last_times;
 mod refusal;
 mod restores;
 mod settings;
+<<<<<<< HEAD
+=======
+#[cfg(test)]
+mod tests;
+mod zone;
+>>>>>>> bf3046bab08a0444cccde2c76d655a6a368588dd
 
 pub use deciding::decide;
-pub use decision::{Change, Decision, JobBody};
+pub use decision::{Change, Decision, JobBody, SiteChange};
 pub use due_list::due_backups;
 
 /// No memory was left.
