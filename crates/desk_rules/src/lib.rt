@@ -13,12 +13,7 @@ mod last_times;
 mod refusal;
 mod restores;
 mod settings;
-<<<<<<< HEAD
-=======
-#[cfg(test)]
-mod tests;
 mod zone;
->>>>>>> bf3046bab08a0444cccde2c76d655a6a368588dd
 
 pub use deciding::decide;
 pub use decision::{Change, Decision, JobBody, SiteChange};
