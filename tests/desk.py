@@ -15,9 +15,6 @@ ROOT = Path(__file__).resolve().parent.parent
 # Another file in the program's place, for one who tries these tests on a program that is known to be right or wrong.
 PROGRAM = Path(os.environ.get("BPDESK_PROGRAM", ROOT / "crates/bpdesk/out/bpdesk"))
 
-# The forms that stand: the tests of each are run.
-FORMS = os.environ.get("BPDESK_FORMS", "bpbackup bprestore session unit client bppolicynew bpplsched bpzone bpload").split()
-
 LATEST = 250_000_000_000
 LONGEST = 67_108_864
 

@@ -1,25 +1,10 @@
-"""Finds the tests of the forms that stand, runs them, and counts them in the last line."""
+"""Finds the tests as `python3 -m unittest` does, runs them, and counts them in the last line."""
 
 import sys
 import time
 import unittest
 
 import desk
-
-# The tests of each form, and those that hold whatever forms there are.
-ALWAYS = ["test_launcher", "test_document"]
-TESTS_OF = {
-    "bpbackup": ["test_backup", "test_opening", "test_faults", "test_processes", "test_trace"],
-    "bprestore": ["test_restore"],
-    "session": ["test_session", "test_session_stops"],
-    # (the requests that set up a site need one another, so what is tested of one needs all of them)
-    "unit": ["test_site_limits"],
-    "client": ["test_site"],
-    "bppolicynew": ["test_site_words"],
-    "bpplsched": ["test_site_windows"],
-    "bpzone": ["test_site_journal"],
-    "bpload": ["test_site_file", "test_site_stops"],
-}
 
 
 class Result(unittest.TestResult):
@@ -49,12 +34,11 @@ def names_of(suite):
 
 
 def main(words):
-    wanted = [*ALWAYS, *(module for form in desk.FORMS for module in TESTS_OF[form])]
     if not desk.is_built():
         print(f"there is no program at {desk.PROGRAM}: run ./bpdesk once, which builds it")
         print("tests: 0 passed, 1 failed")
         return 1
-    found = names_of(unittest.defaultTestLoader.loadTestsFromNames(wanted))
+    found = names_of(unittest.defaultTestLoader.discover(str(desk.ROOT / "tests")))
     chosen = [test for test in found if not words or any(word in test.id() for word in words)]
     result = Result()
     unittest.TestSuite(chosen).run(result)
@@ -64,9 +48,6 @@ def main(words):
     # (a row of a table that fails counts its test as failed once, however many rows failed)
     failed = len({getattr(test, "test_case", test).id() for test, _ in bad})
     passed = len(chosen) - failed - len(result.skipped)
-    off = [form for form in TESTS_OF if form not in desk.FORMS]
-    if off:
-        print(f"forms that do not stand yet, whose tests were left out: {' '.join(off)}")
     print(f"tests: {passed} passed, {failed} failed")
     return 1 if failed or not chosen else 0
 

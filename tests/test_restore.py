@@ -7,7 +7,7 @@ from pathlib import Path
 import desk
 import vault
 from desk import DeskTest
-from test_backup import HELLO, run_exactly
+from test_backup import HELLO, run_exactly, with_moments
 
 BAD_WORDS = [
     (["bprestore"], 1),
@@ -54,7 +54,7 @@ class Restore(DeskTest):
                 self.assertEqual(self.desk.bytes(), HELLO)
 
     def test_bad_words(self):
-        for words, index in BAD_WORDS:
+        for words, index in with_moments(BAD_WORDS):
             with self.subTest(words=words):
                 one = self.new_desk()
                 self.check(run_exactly(one, words), 2, b"bad request at %d\n" % index)

@@ -55,6 +55,21 @@ ROWS = {
     ),
     "two spaces": (b"@5  bpbackup client=b\n", [BAD[1]], 0),
     "a space at the end": (b"@5 bpbackup client=b \n", [BAD[3]], 0),
+    "a payload where none is taken, at the end": (b"bprestore id=b_9 payload=1\nx", [BAD[2]], 0),
+    "a payload of x on a line without its line feed": (b"bpbackup client=b payload=x", [BAD[2]], 2),
+    "a restore with a carriage return": (b"bprestore id=b_9\r\n", [frame(4, b"b_9 unknown\n")], 0),
+    "a last restore without its line feed": (b"@7 bpbackup client=b\nbprestore id=b_7 copy=2", [frame(0, b"b_7\n"), frame(4, b"b_7/2 unknown\n")], 0),
+    "a line feed alone": (b"\n", [BAD[0]], 0),
+    "a moment that is none": (b"@7 bpbackup client=b\n\r\n@x bpbackup client=b\n", [frame(0, b"b_7\n"), BAD[0], BAD[0]], 0),
+    "a session behind a backup": (b"@7 bpbackup client=b\nsession\n", [frame(0, b"b_7\n"), BAD[0]], 0),
+    "a payload alone": (b"payload=0\npayload=1 a\n", [BAD[0], BAD[0]], 0),
+    "a payload of a bad request behind a carriage return": (b"a b payload=3\r\nxyzc\n", [BAD[0], BAD[0]], 0),
+    "a payload of line feeds": (b"a payload=2\n\n\nb\n", [BAD[0], BAD[0]], 0),
+    "a payload of line feeds that is cut": (b"a payload=3\n\n\n", [BAD[1]], 2),
+    "a payload that is cut, of a bad request": (b"a b payload=1", [BAD[2]], 2),
+    "a payload of nothing, alone": (b"payload=", [BAD[0]], 2),
+    "the longest payload that a line may name, cut": (b"a payload=67108864\nx", [BAD[1]], 2),
+    "a last line of 8,192 bytes": (b"x" * 8_192, [BAD[0]], 0),
     "a tab": (b"@5 bpbackup\tclient=b\n", [BAD[1]], 0),
     "session in a session": (b"session\n@5 session\n", [BAD[0], BAD[1]], 0),
     "a line of 8,192 bytes": (b"x" * 8_192 + b"\n@5 bpbackup client=b\n", [BAD[0], frame(0, b"b_5\n")], 0),
@@ -127,6 +142,17 @@ class Rows(DeskTest):
                             break
                         time.sleep(0.0005)
                     self.compare(self.ending(process), replies, status)
+
+    def test_a_payload_in_many_pieces(self):
+        payload = random.Random(9).randbytes(200_000)
+        text = b"@5 bpbackup client=b payload=200000\n" + payload + b"@6 bprestore id=b_5\n"
+        for size in (999, 65_536):
+            with self.subTest(size=size):
+                process = self.new_desk().start("session")
+                for at in range(0, len(text), size):
+                    process.stdin.write(text[at : at + size])
+                    process.stdin.flush()
+                self.compare(self.ending(process), [frame(0, b"b_5\n"), frame(0, payload)], 0)
 
     def test_each_reply_comes_before_the_next_request(self):
         process = self.desk.start("session")

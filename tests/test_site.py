@@ -326,6 +326,47 @@ BACKUPS = {
 }
 
 
+# One vault from its first backup to a policy that has no schedule any more.
+A_SITE_IN_TURN = [
+    ("@1000 bpbackup client=web", 0, "web_1000", b"hello"),
+    ("@1000 bpbackup client=web", 0, "web_1001", b"hello"),
+    ("bprestore id=web_1001", 0, b"hello"),
+    ("@1000 bpbackup client=db", 0, "db_1000", b"hello"),
+    ("bprestore id=db_1000 copy=1", 0, b"hello"),
+    ("@7 bprestore copy=1 id=db_1000", 0, b"hello"),
+    ("bprestore id=db_1000 copy=2", 4, "db_1000/2 unknown"),
+    ("bprestore id=web_1002", 4, "web_1002 unknown"),
+    ("@5 bpbackup client=web", 0, "web_1002", b"hello"),
+    ("@250000000000 bpbackup client=a", 0, "a_250000000000", b"hello"),
+    ("@250000000000 bpbackup client=a", 15, END_OF_TIME, b"hello"),
+    ("@0 bpbackup client=db", 0, "db_1001", b"hello"),
+    ("@2000 bpbackup client=web", 0, "web_2000", b"hello"),
+    ("client add name=web", 3, "web exists"),
+    ("client add name=mail", 0, ""),
+    ("unit add name=vault1 capacity=1000 high=50 low=40", 0, ""),
+    ("unit change name=vault2 slots=7", 4, "vault2 unknown"),
+    ("bppolicynew add policy=office type=raw lifecycle=basic", 0, ""),
+    ("bppolicynew client-add policy=office client=mail", 0, ""),
+    ("bppolicynew client-add policy=office client=mail", 3, "office/mail exists"),
+    ("bpplsched add policy=office schedule=weekly kind=full frequency=604800 windows=thu/22:00:00/14400", 0, ""),
+    ("bpplsched change policy=office schedule=weekly kind=cumul calendar=wLfri+x2027-12-31 windows=always", 6, "rule 8 broken"),
+    ("@75600 bpbackup client=mail policy=office start=scheduled", 8, "weekly window closed", b"hello"),
+    ("bpzone set rule=CET-1CEST,M3.5.0,M10.5.0/3", 0, ""),
+    ("@79200 bpbackup client=mail policy=office start=scheduled", 0, "mail_79200", b"hello"),
+    ("@75600 bpbackup client=mail policy=office start=scheduled", 0, "mail_79201", b"hello"),
+    ("@75600 bpbackup client=web policy=office", 4, "office/web unknown", b"hello"),
+    ("bpbackup client=mail policy=office schedule=daily", 4, "office/daily unknown", b"hello"),
+    ("client remove name=mail", 5, "mail in use by policy office"),
+    ("bppolicynew remove policy=office", 5, "office in use by mail_79200"),
+    ("bppolicynew change policy=adhoc active=no", 0, ""),
+    ("bpbackup client=new", 7, "adhoc inactive", b"hello"),
+    ("bppolicynew select policy=office path=/home%20one", 0, ""),
+    ("bppolicynew unselect policy=office path=/home", 4, "/home unknown"),
+    ("bpplsched remove policy=office schedule=weekly", 0, ""),
+    ("bpbackup client=mail policy=office", 4, "office/- unknown", b"hello"),
+]
+
+
 class Rows(RowsTest):
     def run_tables(self, tables):
         for name, rows in tables.items():
@@ -346,6 +387,9 @@ class Rows(RowsTest):
 
     def test_backups(self):
         self.run_tables(BACKUPS)
+
+    def test_a_site_in_turn(self):
+        self.run_rows(A_SITE_IN_TURN)
 
     def test_an_image_keeps_its_policy_and_schedule(self):
         records = self.run_rows(

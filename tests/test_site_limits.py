@@ -44,7 +44,30 @@ def too_many(kind, limit):
     return f"too many {kind}: {limit} of {limit}"
 
 
+# What is added first for each number, the request that fills a list, how many more it takes on a new vault, and its limit.
+ONE_BY_ONE = [
+    ("", "unit add name=u{} capacity=1", 15, "units", 16),
+    ("", "client add name=c{}", 1_024, "clients", 1_024),
+    ("", "bppolicynew add policy=p{} type=raw lifecycle=basic", 255, "policies", 256),
+    ("client add name=c{}", "bppolicynew client-add policy=adhoc client=c{}", 1_024, "policy-clients", 1_024),
+    ("", "bppolicynew select policy=adhoc path=/{}", 64, "selections", 64),
+    ("", "bpplsched add policy=adhoc schedule=s{} kind=full frequency=1 windows=none", 31, "schedules", 32),
+]
+
+
 class Limits(RowsTest):
+    def test_lists_that_are_filled_one_by_one(self):
+        """The last that is taken is done, and the next is refused, in the session and at a new opening."""
+        for first, line, more, kind, limit in ONE_BY_ONE:
+            with self.subTest(kind):
+                one = self.new_desk()
+                rows = [(first.format(number), 0, "") for number in range(more) if first]
+                rows += [(line.format(number), 0, "") for number in range(more)]
+                rows += [(line.format(more), 15, too_many(kind, limit))]
+                self.run_session(one, rows)
+                self.run_alone(one, rows[-1:])
+                self.assertEqual(len(vault.read(one.bytes())), len(rows) - 1)
+
     def is_refused_whole(self, kind, limit, file):
         """A load of one more than there may be is refused, and nothing of it is there."""
         self.run_rows([("bpload", 15, too_many(kind, limit), file)])

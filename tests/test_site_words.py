@@ -28,6 +28,7 @@ BAD = [
     ("bpplsched select policy=p path=/", 1),
     ("bpzone get", 1),
     ("bpzone offset=+00:00", 1),
+    ("client rename name=a", 1),
     # The first names none.
     ("units add name=t capacity=1", 0),
     ("Client add name=a", 0),
@@ -63,6 +64,7 @@ BAD = [
     ("bpplsched remove policy=p schedule=s kind=full", 4),
     ("bpzone set zone=UTC0", 2),
     ("bpload file=site.toml", 1),
+    ("bpload file=a", 1),
     ("bpload payload=5", 1),
     ("bpbackup client=a lifecycle=basic", 2),
     ("bpbackup client=a type=raw", 2),
@@ -110,6 +112,7 @@ BAD = [
     ("bpplsched remove policy=p", 3),
     ("bpplsched remove schedule=s", 3),
     ("bpbackup policy=adhoc schedule=manual start=manual", 4),
+    ("bpbackup policy=adhoc", 2),
     # Both or none of two alternatives.
     ("bpplsched add policy=p schedule=s kind=full windows=none", 6),
     ("bpplsched add policy=p schedule=s kind=full frequency=1 calendar=mL windows=none", 8),
@@ -142,6 +145,12 @@ BAD = [
     ("bpplsched add policy=p schedule=s kind=full frequency=1 calendar=m0 windows=none", 6),
     ("bpzone set rule=UTC0 offset=-00:00", 3),
     ("bppolicynew add policy=p type=files", 3),
+    ("bppolicynew add policy=p type=files lifecycle=basic", 3),
+    ("bppolicynew select policy=p path=/a%2F", 3),
+    ("unit add name=t capacity=1 segment=15", 4),
+    ("bpplsched add policy=p schedule=s kind=full calendar=m32 windows=none", 5),
+    ("bpplsched add policy=p schedule=s kind=full frequency=1 windows=sun/24:00:00/1", 6),
+    ("bpbackup client=a start=now", 2),
 ]
 
 # The marks of a unit that is added have defaults, 98 and 80, and each goes with the other's.
@@ -170,8 +179,12 @@ VALUES = [
     ("bppolicynew change policy=adhoc active={}", ["yes", "no"], ["", "Yes", "true", "1", "y", "yes,no"]),
     ("bppolicynew change policy=adhoc lifecycle={}", ["basic", NAME_OF_64], NAMES[1]),
     ("bppolicynew remove policy={}", *NAMES),
+    ("bppolicynew client-add policy={} client=a", *NAMES),
     ("bppolicynew client-add policy=adhoc client={}", *NAMES),
+    ("bppolicynew client-remove policy=adhoc client={}", *NAMES),
     ("bppolicynew client-remove policy={} client=a", *NAMES),
+    ("bppolicynew select policy={} path=/", *NAMES),
+    ("bppolicynew unselect policy={} path=/", *NAMES),
     (
         "bppolicynew select policy=adhoc path={}",
         ["/", "//", "/a/", "/..", "/a=b", "/a+b,c:d;e", "/~!@#$&*()'\"\\", "/a%20b", "/%25", "/%01", "/%09", "/%0B", "/%0D", "/%1F", "/%7F", "/%80", "/%FF", "/%C3%A9"]
@@ -182,6 +195,12 @@ VALUES = [
     ("bppolicynew unselect policy=adhoc path={}", ["/", "/%20", "/" + "a" * 1023], ["", "a", "/%", "/%41", "/%00", "/" + "a" * 1024]),
     ("bpplsched add policy=adhoc schedule={} kind=full frequency=1 windows=none", *NAMES),
     ("bpplsched add policy=adhoc schedule=s# kind={} frequency=1 windows=none", ["full", "diff", "cumul"], ["", "Full", "incr", "differential", "0", "fulldiff"]),
+    ("bpplsched add policy={} schedule=s kind=full frequency=1 windows=none", *NAMES),
+    ("bpplsched change policy={} schedule=s kind=full frequency=1 windows=none", *NAMES),
+    ("bpplsched change policy=adhoc schedule={} kind=full frequency=1 windows=none", *NAMES),
+    ("bpplsched change policy=adhoc schedule=manual kind={} frequency=1 windows=none", ["full", "diff", "cumul"], ["", "Full", "incr"]),
+    ("bpplsched change policy=adhoc schedule=manual kind=full frequency={} windows=none", ["1", "3153600000"], ["", "0", "01", "3153600001", *LARGE]),
+    ("bpplsched remove policy={} schedule=s", *NAMES),
     ("bpplsched remove policy=adhoc schedule={}", *NAMES),
     ("unit add name=u# capacity={}", ["1", "9", "1125899906842624"], ["", "0", "00", "01", "+1", "-1", "1.0", "1e3", "1_000", "0x10", "1k", "1125899906842625", *LARGE]),
     ("unit add name=u# capacity=1 segment={}", ["16", "131072"], ["", "0", "15", "016", "131073", *LARGE]),
@@ -198,17 +217,17 @@ VALUES = [
         "bpplsched add policy=adhoc schedule=s# kind=full calendar={} windows=none",
         ["d1970-01-01", "d9891-12-31", "d2024-02-29", "d2000-02-29", "x1970-01-01", "x2024-02-29", "w0sun", "w0sat", "w1mon", "w4fri", "wLtue"]
         + ["m1", "m9", "m31", "mL", "m1+mL", "w0mon+x2024-05-20", "m1+m1", DATES],
-        ["", "+", "m1+", "+m1", "m1++m2", "m1,m2", "m", "m0", "m32", "m01", "ml", "M1", "m-1", "w", "w0", "w5mon", "wmon", "w0Mon", "w0mo", "w0monday", "wlsun", "w00sun"]
+        ["", "+", "m1+", "+m1", "m1++m2", "m1,m2", "m", "m0", "m32", "m01", "ml", "M1", "m-1", "w", "w0", "w5mon", "wmon", "w0Mon", "w0mo", "w0mond", "w0monday", "w0abc", "wlsun", "w00sun", "mL1"]
         + ["d", "d1969-12-31", "d9892-01-01", "d10000-01-01", "d2023-02-29", "d2100-02-29", "d2024-04-31", "d2024-13-01", "d2024-00-01", "d2024-01-00", "d2024-01-32"]
-        + ["d2024-1-01", "d2024-01-1", "d24-01-01", "d2024/01/01", "d2024-01-01x", "d20240101", "2024-01-01", "x", "x2023-02-29", "xmL", "always", "none", f"{DATES}+m1"],
+        + ["d2024-1-01", "d2024-01-1", "d+024-01-01", "d24-01-01", "d2024/01/01", "d2024-01-01x", "d20240101", "2024-01-01", "x", "x2023-02-29", "x2024-13-01", "xmL", "m1+w5mon", "always", "none", f"{DATES}+m1"],
     ),
     (
         "bpplsched add policy=adhoc schedule=s# kind=full frequency=1 windows={}",
         ["always", "none", "sun/00:00:00/1", "mon/01:02:03/60", "tue/19:59:59/7200", "wed/09:00:00/3600", "thu/22:00:00/14400", "fri/20:00:00/36000"]
         + ["sat/23:59:59/604800", "sun/00:00:00/1+sun/00:00:00/1", WINDOWS],
         ["", "+", "Always", "all", "always+always", "none+none", "always+sun/00:00:00/1", "sun/00:00:00/1+none", "sun/00:00:00/0", "sun/00:00:00/604801", "sun/00:00:00/01"]
-        + ["sun/24:00:00/1", "sun/00:60:00/1", "sun/00:00:60/1", "sun/0:00:00/1", "sun/00:0:00/1", "sun/00:00/1", "sun/00:00:00", "sun/00:00:00/", "sun/00:00:00/1/", "sun/00:00:00/-1"]
-        + ["/00:00:00/1", "Sun/00:00:00/1", "sunday/00:00:00/1", "su/00:00:00/1", "0/00:00:00/1", "sun-00:00:00-1", "sun/00.00.00/1", "sun/+1:00:00/1", "sun/000000/1"]
+        + ["sun/24:00:00/1", "sun/00:60:00/1", "sun/00:00:60/1", "sun/0:00:00/1", "sun/00:0:00/1", "sun/00:00/1", "sun/00:00:00", "sun/00:00:00/", "sun/00:00:00/1/", "sun/00:00:00/-1", "sun/00:00:00/+1", "sun/00:00:00/18446744073709551616"]
+        + ["/00:00:00/1", "sun", "day/00:00:00/1", "Sun/00:00:00/1", "sunday/00:00:00/1", "su/00:00:00/1", "0/00:00:00/1", "sun-00:00:00-1", "sun/00.00.00/1", "sun/+1:00:00/1", "sun/000000/1"]
         + ["sun/00:00:00/1+", "+sun/00:00:00/1", "sun/00:00:00/1++mon/00:00:00/1", "sun/00:00:00/1,mon/00:00:00/1", f"{WINDOWS}+sun/05:00:00/60"],
     ),
     ("bpplsched change policy=adhoc schedule=manual kind=full calendar={} windows=none", ["mL", DATES], ["", "m0", f"{DATES}+m1"]),
@@ -225,10 +244,79 @@ VALUES = [
         ["", "UTC", "frob", "Europe/Zurich", ":UTC0", "UTC0x", "UTC0,", "UT0", "CET-1CEST,M3.5.0", "CET-1CEST,M13.5.0,M10.5.0", "CET-1CEST,M0.5.0,M10.5.0", "CET-1CEST,M3.6.0,M10.5.0"]
         + ["CET-1CEST,M3.5.7,M10.5.0", "CET-1CEST,M3.5.0,M10.5.0,M1.1.1", "CET-25", "+02:00", "<+02-2", "A" * 1025],
     ),
+    ("@5 bpbackup client={}", *NAMES),
     ("@5 bpbackup client=c policy={}", ["adhoc", "gold", NAME_OF_64], NAMES[1]),
     ("@5 bpbackup client=c schedule={}", ["manual", "s", NAME_OF_64], NAMES[1]),
     ("@5 bpbackup client=c start={}", ["manual", "scheduled"], ["", "Manual", "auto", "now", "0", "manual+scheduled"]),
+    (
+        "bprestore id={}",
+        ["a_1", "a_1_1", "__1", f"{NAME_OF_64}_250000000000"],
+        ["", "a", "_1", "a_", "a_0", "a_01", "a_-1", "a_+1", "a_250000000001", "a_18446744073709551617", "a/b_1", "a_1_", "a_1x", f"{NAME_OF_64}n_1"],
+    ),
+    ("bprestore id=a_1 copy={}", ["1", "32"], ["", "0", "01", "33", "257", "x", "-1", *LARGE]),
 ]
+
+# Each form: the keys that it needs, those that it may have, and two of which it needs one and not both.
+FORMS = {
+    "unit add": ("name capacity", "segment fragment slots high low", ""),
+    "unit change": ("name", "capacity slots high low", ""),
+    "client add": ("name", "", ""),
+    "client remove": ("name", "", ""),
+    "bppolicynew add": ("policy type lifecycle", "", ""),
+    "bppolicynew change": ("policy", "active lifecycle", ""),
+    "bppolicynew remove": ("policy", "", ""),
+    "bppolicynew client-add": ("policy client", "", ""),
+    "bppolicynew client-remove": ("policy client", "", ""),
+    "bppolicynew select": ("policy path", "", ""),
+    "bppolicynew unselect": ("policy path", "", ""),
+    "bpplsched add": ("policy schedule kind windows", "", "frequency calendar"),
+    "bpplsched change": ("policy schedule kind windows", "", "frequency calendar"),
+    "bpplsched remove": ("policy schedule", "", ""),
+    "bpzone set": ("", "", "rule offset"),
+    "bpload": ("", "", ""),
+    "bpbackup": ("client", "policy schedule start", ""),
+    "bprestore": ("id", "copy", ""),
+}
+
+# A good value of each key.
+VALUE_OF = {
+    **dict.fromkeys(("name", "policy", "client", "schedule", "lifecycle"), "a"),
+    **{"capacity": "1", "segment": "16", "fragment": "1", "slots": "1", "high": "2", "low": "1"},
+    **{"type": "raw", "active": "no", "path": "/", "kind": "full", "frequency": "1", "calendar": "mL", "windows": "none"},
+    **{"rule": "UTC0", "offset": "+00:00", "start": "manual", "id": "a_1", "copy": "1"},
+}
+
+
+def keys_of(form):
+    needed, others, either = FORMS[form]
+    return [*needed.split(), *others.split(), *either.split()]
+
+
+def bad_of(form):
+    """Returns bad words of a form, each made of good ones by one fault, with the index that is told."""
+    needed, others, either = FORMS[form]
+    head, whole = form.split(" "), [*needed.split(), *either.split()[:1], *others.split()]
+    words = [*head, *(f"{key}={VALUE_OF[key]}" for key in whole)]
+    count = len(words)
+    for at in range(len(head), count):
+        key, value = words[at].split("=", 1)
+        # It has no equals sign, no value, no key, or another key, and it stands there twice.
+        for word in (key, f"{key}=", f"={value}", f"{key.title()}={value}", f"{key}s={value}", f"{key}:{value}"):
+            yield [*words[:at], word, *words[at + 1 :]], at
+        yield [*words, words[at]], count
+        yield [*words[: at + 1], words[at], *words[at + 1 :]], at + 1
+        # It is missing.
+        if key in f"{needed} {either}".split():
+            yield [*words[:at], *words[at + 1 :]], count - 1
+    for key in either.split()[1:]:
+        yield [*words, f"{key}={VALUE_OF[key]}"], count + 1
+    # A key that other forms have, and none that any has.
+    for word in [*(f"{key}={value}" for key, value in VALUE_OF.items() if key not in keys_of(form)), "frob=1", ""]:
+        yield [*words, word], count
+        yield [*head, word, *words[len(head) :]], len(head)
+    for at, word in enumerate(head):
+        yield [*head[:at], word.title(), *words[at + 1 :]], at
+        yield [*head[:at], f"{word}s", *words[at + 1 :]], at
 
 # One of each form that takes no payload, with all its keys.
 WITHOUT_PAYLOAD = [
@@ -295,6 +383,23 @@ class Words(RowsTest):
     def test_bad_words_in_a_session(self):
         # (in a session the word payload=5 is no word of the request)
         self.bad_in_session([row for row in BAD if "payload=" not in row[0]])
+
+    def test_each_fault_of_each_form(self):
+        for form in FORMS:
+            rows = [(" ".join(words), index) for words, index in bad_of(form)]
+            for words, index in rows:
+                self.is_bad(words, index)
+            with self.subTest(form):
+                self.bad_in_session(rows)
+
+    def test_each_key_of_each_form_has_its_values(self):
+        """So no form and no key is without its rows in the table of values."""
+        found = set()
+        for line, _, _ in VALUES:
+            words = line.removeprefix("@5 ").split(" ")
+            (key,) = [word.split("=")[0] for word in words if "{}" in word]
+            found.add((" ".join(word for word in words if "=" not in word), key))
+        self.assertEqual(found, {(form, key) for form in FORMS for key in keys_of(form)})
 
     def test_values_beside_their_grammar(self):
         for line in VALUES:

@@ -17,15 +17,15 @@ use Rattle.desk_model.specs.Step.{step}
 use Rattle.site_desk.specs.Desk as desk
 use Rattle.site_desk.specs.Desk.{Answered, IsFaultOf}
 use Rattle.site_desk.specs.Stands.{opened}
-use Rattle.bp_cli.specs.Words.{spoken, IsSpoken}
+use Rattle.bp_cli.specs.Words.{timed_request, IsTimedReading}
 use Rattle.bp_cli.specs.Gather.{Gathers, IsGiven, IsUngathered}
 use Rattle.bp_cli.specs.Runs.{IsOfRequest, refusal_of, word_refusal_of}
 use Rattle.bp_cli.proofs.StepLemmas.{no_file}
 use Rattle.bp_cli.specs.Causes.{IsModels, IsCausedHere, Heard, IsCaused}
-use Rattle.bp_cli.specs.declared.gather.Gathered.{Gathered}
-use Rattle.bp_cli.specs.declared.words.Spoken.{Spoken}
+use Rattle.bp_cli.specs.declared.gather.Inputs.{Inputs}
+use Rattle.bp_cli.specs.declared.words.TimedRequest.{TimedRequest}
 
-module _ (asked : Spoken) (tells : Type 0) (state : State) (input input' : Input) (ticks ticks' : Ticks) where
+module _ (asked : TimedRequest) (tells : Type 0) (state : State) (input input' : Input) (ticks ticks' : Ticks) where
   -- nothing was gathered
   pub caused_ungathered : (a : Answer) → IsUngathered (takes_payload asked.request) a input → IsCausedHere asked tells state input input' ticks ticks' a
   caused_ungathered OutOfMemory ungathered = tt
@@ -34,7 +34,7 @@ module _ (asked : Spoken) (tells : Type 0) (state : State) (input input' : Input
   caused_ungathered (TooMany kind count limit) ungathered = inl ungathered
   caused_ungathered _ ungathered = absurd ungathered
 
-  models : (a : Answer) (g : Gathered) (payload : List ℕ) → payload ≡ g.payload → Gathers (takes_payload asked.request) asked.moment input input' ticks ticks' g → (tells → a ≡ (step state asked.request payload g.moment).0) → IsModels asked tells state input input' ticks ticks' a
+  models : (a : Answer) (g : Inputs) (payload : List ℕ) → payload ≡ g.payload → Gathers (takes_payload asked.request) asked.moment input input' ticks ticks' g → (tells → a ≡ (step state asked.request payload g.moment).0) → IsModels asked tells state input input' ticks ticks' a
   models a g payload same gathers is = record {
     payload = payload;
     given = subst (λ (x : List ℕ). IsGiven (takes_payload asked.request) x input input') (sym same) gathers.payload;
@@ -45,7 +45,7 @@ module _ (asked : Spoken) (tells : Type 0) (state : State) (input input' : Input
   }
 
   -- it was carried out, or refused by the desk
-  pub caused_stepped : (a : Answer) (g : Gathered) (payload : List ℕ) → desk.IsOfRequest asked.request payload a → payload ≡ g.payload → Gathers (takes_payload asked.request) asked.moment input input' ticks ticks' g → (tells → Answered state asked.request payload g.moment a) → IsCausedHere asked tells state input input' ticks ticks' a
+  pub caused_stepped : (a : Answer) (g : Inputs) (payload : List ℕ) → desk.IsOfRequest asked.request payload a → payload ≡ g.payload → Gathers (takes_payload asked.request) asked.moment input input' ticks ticks' g → (tells → Answered state asked.request payload g.moment a) → IsCausedHere asked tells state input input' ticks ticks' a
   caused_stepped OutOfMemory g payload kinds same gathers answered = tt
   caused_stepped DiskFault g payload kinds same gathers answered = tt
   caused_stepped ReadFault g payload kinds same gathers answered = tt
@@ -55,18 +55,18 @@ module _ (asked : Spoken) (tells : Type 0) (state : State) (input input' : Input
   caused_stepped a g payload kinds same gathers answered = models a g payload same gathers answered
 
 -- the words ask for nothing
-pub caused_words : (words : List (List ℕ)) (tells : Type 0) (seen : Image) (input input' : Input) (ticks ticks' : Ticks) (fault : WordFault) → IsSpoken (Err fault) (spoken words) → IsCaused words tells seen input input' ticks ticks' (word_refusal_of fault)
+pub caused_words : (words : List (List ℕ)) (tells : Type 0) (seen : Image) (input input' : Input) (ticks ticks' : Ticks) (fault : WordFault) → IsTimedReading (Err fault) (timed_request words) → IsCaused words tells seen input input' ticks ticks' (word_refusal_of fault)
 caused_words words tells seen input input' ticks ticks' (word.Bad index) is = inl is
 caused_words words tells seen input input' ticks ticks' word.NoMemory is = tt
 
 -- the vault wasn't opened
-pub caused_unopened : (words : List (List ℕ)) (tells : Type 0) (seen : Image) (input input' : Input) (ticks ticks' : Ticks) (asked : Spoken) (fault : JournalFault) → spoken words ≡ Ok asked → (tells → IsFaultOf (opened seen) fault) → IsCaused words tells seen input input' ticks ticks' (refusal_of fault)
+pub caused_unopened : (words : List (List ℕ)) (tells : Type 0) (seen : Image) (input input' : Input) (ticks ticks' : Ticks) (asked : TimedRequest) (fault : JournalFault) → timed_request words ≡ Ok asked → (tells → IsFaultOf (opened seen) fault) → IsCaused words tells seen input input' ticks ticks' (refusal_of fault)
 caused_unopened words tells seen input input' ticks ticks' asked journal.NoMemory words_ask is = tt
 caused_unopened words tells seen input input' ticks ticks' asked journal.DiskFault words_ask is = record { asked = asked; words_ask = words_ask }
 caused_unopened words tells seen input input' ticks ticks' asked (journal.NotAVault offset) words_ask is = (record { asked = asked; words_ask = words_ask }, is)
 
 -- a desk answered
-module _ (words : List (List ℕ)) (tells tells' : Type 0) (tell_still : tells → tells') (seen : Image) (input input' : Input) (ticks ticks' : Ticks) (asked : Spoken) (state : State) (words_ask : spoken words ≡ Ok asked) (opens : tells → opened seen ≡ Ok state) where
+module _ (words : List (List ℕ)) (tells tells' : Type 0) (tell_still : tells → tells') (seen : Image) (input input' : Input) (ticks ticks' : Ticks) (asked : TimedRequest) (state : State) (words_ask : timed_request words ≡ Ok asked) (opens : tells → opened seen ≡ Ok state) where
   abbrev here : Heard words tells seen
   here = record { asks = record { asked = asked; words_ask = words_ask }; state = state; opens = opens }
 

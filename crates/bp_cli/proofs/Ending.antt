@@ -49,17 +49,17 @@ unheard_over status last same is = ⊎_elim (λ one. inr (inr (sym same ∙ one)
 module _ (input0 input' : Input) where
   pub ended_by : {X : Type 0} (a : Answer) (status : ℕ) → EndsServing input0 a → (status ≡ number_of a) ⊎ ((status ≡ 1) ⊎ ((status ≡ 20) × X)) → ServingEnded input0 input' status
   ended_by a status ends is = ⊎_elim
-      (λ number. inr (inl (record { answer = a; ends = ends; status_is = number })))
-      (λ other. ⊎_elim (λ one. inr (inl (record { answer = OutOfMemory; ends = tt; status_is = one }))) (λ unsent. inr (inr unsent.0)) other) is
+      (λ number. inr (inl (record { answer = a; ended = ends; status_is = number })))
+      (λ other. ⊎_elim (λ one. inr (inl (record { answer = OutOfMemory; ended = tt; status_is = one }))) (λ unsent. inr (inr unsent.0)) other) is
 
   -- a request ended it
   pub ended_over : (status : ℕ) → (status ≡ 20) ⊎ IsOverBy status → status ≢ 19 → ServingEnded input0 input' status
-  ended_over status over not_read = ⊎_elim (λ unsent. inr (inr unsent)) (λ by. ⊎_elim (λ is. fault (is_fault status is)) (λ one. inr (inl (record { answer = OutOfMemory; ends = tt; status_is = one }))) by) over
+  ended_over status over not_read = ⊎_elim (λ unsent. inr (inr unsent)) (λ by. ⊎_elim (λ is. fault (is_fault status is)) (λ one. inr (inl (record { answer = OutOfMemory; ended = tt; status_is = one }))) by) over
     where
       fault : (status ≡ 18) ⊎ ((status ≡ 19) ⊎ (status ≡ 21)) → ServingEnded input0 input' status
       fault is = ⊎_elim
-          (λ disk. inr (inl (record { answer = DiskFault; ends = tt; status_is = disk })))
-          (λ other. ⊎_elim (λ read. absurd (not_read read)) (λ clock. inr (inl (record { answer = ClockFault; ends = tt; status_is = clock }))) other) is
+          (λ disk. inr (inl (record { answer = DiskFault; ended = tt; status_is = disk })))
+          (λ other. ⊎_elim (λ read. absurd (not_read read)) (λ clock. inr (inl (record { answer = ClockFault; ended = tt; status_is = clock }))) other) is
 
 module _ (input0 input : Input) (held : List ℕ) (read : HasRead input0 input held) where
   pub read_more : (words : List (List ℕ)) (payload : List ℕ) (input' : Input) (held' : List ℕ) → (input0.tells → turns (held ++ input.left) ≡ request words payload ∷ turns (held' ++ input'.left)) → HasRead input0 input' held'
@@ -96,7 +96,7 @@ module _ (input0 input : Input) (held : List ℕ) (read : HasRead input0 input h
 -- the vault was opened, and the session served
 pub caused_served : (d0 d2 : Disk) (input input' : Input) (state : State) (status : ℕ) → (d0.tells → opened d0.seen ≡ Ok state) → ServingEnded input input' status → SessionCaused d0 d2 input input' status
 caused_served d0 d2 input input' state status opens ended = record {
-  ends = ⊎_elim (λ done. inl (done.0, here, done.1)) (λ by. inr (⊎_elim (λ e. inl (record { answer = e.answer; ends = lifted e.answer e.ends; status_is = e.status_is })) (λ unsent. inr unsent) by)) ended;
+  ends = ⊎_elim (λ done. inl (done.0, (here, done.1))) (λ by. inr (⊎_elim (λ e. inl (record { answer = e.answer; ended = lifted e.answer e.ended; status_is = e.status_is })) (λ unsent. inr unsent) by)) ended;
   unopened = λ offset told is. absurd (cc (sym (opens told) ∙ is));
 }
   where
@@ -105,11 +105,9 @@ caused_served d0 d2 input input' state status opens ended = record {
 
     lifted : (a : Answer) → EndsServing input a → EndsSession d0 input a
     lifted OutOfMemory ends = tt
-    lifted (BadRequest index) ends = (here, ends)
     lifted DiskFault ends = tt
-    lifted ReadFault ends = here
-    lifted ClockFault ends = here
-    lifted _ ends = absurd ends
+    lifted (NotAVault offset) ends = absurd ends
+    lifted a ends = (here, ends)
 
 -- the vault wasn't
 module _ (d0 d1 d2 : Disk) (input : Input) (fault : JournalFault) (status : ℕ) (same : d1.sent ≡ d0.sent) (is_fault_of : d0.tells → IsFaultOf (opened d0.seen) fault) where
@@ -138,15 +136,15 @@ module _ (d0 d1 d2 : Disk) (input : Input) (fault : JournalFault) (status : ℕ)
   pub caused_refused : (d0.tells → RepliesUnopened (refusal_of fault) d1 d2 status) → (status ≡ number_of (refusal_of fault)) ⊎ ((status ≡ 1) ⊎ (status ≡ 20)) → SessionCaused d0 d2 input input status
   caused_refused replies is = record {
     ends = inr (⊎_elim
-        (λ number. inl (record { answer = refusal_of fault; ends = refused_so fault is_fault_of; status_is = number }))
-        (λ other. ⊎_elim (λ one. inl (record { answer = OutOfMemory; ends = tt; status_is = one })) (λ unsent. inr unsent) other) is);
+        (λ number. inl (record { answer = refusal_of fault; ended = refused_so fault is_fault_of; status_is = number }))
+        (λ other. ⊎_elim (λ one. inl (record { answer = OutOfMemory; ended = tt; status_is = one })) (λ unsent. inr unsent) other) is);
     unopened = λ offset told none. refuses offset told none (replies told);
   }
 
 -- the machine was lent to what served the session
 pub caused_lent : (d0 d2 : Disk) (input input' : Input) (status : ℕ) (p0 p1 : List GName) → SessionCaused (record d0 { place = p0 }) (record d2 { place = p1 }) input input' status → SessionCaused d0 d2 input input' status
 caused_lent d0 d2 input input' status p0 p1 x = record {
-  ends = ⊎_elim (λ done. inl (done.0, here done.1, done.2)) (λ by. inr (⊎_elim (λ e. inl (record { answer = e.answer; ends = lifted e.answer e.ends; status_is = e.status_is })) (λ unsent. inr unsent) by)) x.ends;
+  ends = ⊎_elim (λ done. inl (done.0, (here done.1.0, done.1.1))) (λ by. inr (⊎_elim (λ e. inl (record { answer = e.answer; ended = lifted e.answer e.ended; status_is = e.status_is })) (λ unsent. inr unsent) by)) x.ends;
   unopened = λ offset told none. let r = x.unopened offset told none in record { answer = r.answer; is = r.is; part = r.part; whole = r.whole };
 }
   where
@@ -155,9 +153,6 @@ caused_lent d0 d2 input input' status p0 p1 x = record {
 
     lifted : (a : Answer) → EndsSession (record d0 { place = p0 }) input a → EndsSession d0 input a
     lifted OutOfMemory ends = tt
-    lifted (BadRequest index) ends = (here ends.0, ends.1)
     lifted DiskFault ends = tt
-    lifted ReadFault ends = here ends
-    lifted ClockFault ends = here ends
     lifted (NotAVault offset) ends = ends
-    lifted _ ends = absurd ends
+    lifted a ends = (here ends.0, ends.1)

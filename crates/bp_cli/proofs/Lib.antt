@@ -2,7 +2,7 @@ pub mod AnswerLemmas
 pub mod StepLemmas
 pub mod Causing
 pub mod Sending
-pub mod Obeying
+pub mod Executing
 pub mod Opened
 pub mod Replying
 pub mod Framing

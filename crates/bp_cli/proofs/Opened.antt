@@ -15,22 +15,22 @@ use Rattle.pool_journal.specs.declared.fault.JournalFault.TheVariants as journal
 use Rattle.desk_model.specs.State.{State, durable}
 use Rattle.site_desk.specs.Desk.{IsFaultOf}
 use Rattle.site_desk.specs.Stands.{opened, stands, Standing, Opens}
-use Rattle.bp_cli.specs.Words.{spoken, IsSpoken}
-use Rattle.bp_cli.specs.Runs.{Outcome, refused, carried, IsAsked, IsObeyed, Ends, Obeys, Answers, refusal_of, word_refusal_of}
-use Rattle.bp_cli.specs.declared.words.Spoken.{Spoken}
+use Rattle.bp_cli.specs.Words.{timed_request, IsTimedReading}
+use Rattle.bp_cli.specs.Runs.{Outcome, refused, carried, IsAsked, IsExecuted, Ends, Executes, Answers, refusal_of, word_refusal_of}
+use Rattle.bp_cli.specs.declared.words.TimedRequest.{TimedRequest}
 
 pub some_same : (a b : State) → Some a ≡ Some b → a ≡ b
 some_same a b e = cc
 
-asked_of : (words : List (List ℕ)) (asked : Spoken) (seen : Image) (input input' : Input) (ticks ticks' : Ticks) (o : Outcome) → spoken words ≡ Ok asked → IsObeyed asked input input' ticks ticks' o → IsAsked words seen input input' ticks ticks' o
-asked_of words asked seen input input' ticks ticks' (refused OutOfMemory) words_ask obeyed = tt
-asked_of words asked seen input input' ticks ticks' (refused ReadFault) words_ask obeyed = tt
-asked_of words asked seen input input' ticks ticks' (refused ClockFault) words_ask obeyed = tt
-asked_of words asked seen input input' ticks ticks' (refused (TooMany kind count limit)) words_ask obeyed = (asked, words_ask, obeyed)
-asked_of words asked seen input input' ticks ticks' (refused _) words_ask obeyed = absurd obeyed
-asked_of words asked seen input input' ticks ticks' (carried e) words_ask obeyed = record { asked = asked; words_ask = words_ask; request = obeyed.0; payload = obeyed.1; short = obeyed.2; moment = obeyed.3 }
+asked_of : (words : List (List ℕ)) (asked : TimedRequest) (seen : Image) (input input' : Input) (ticks ticks' : Ticks) (o : Outcome) → timed_request words ≡ Ok asked → IsExecuted asked input input' ticks ticks' o → IsAsked words seen input input' ticks ticks' o
+asked_of words asked seen input input' ticks ticks' (refused OutOfMemory) words_ask executed = tt
+asked_of words asked seen input input' ticks ticks' (refused ReadFault) words_ask executed = tt
+asked_of words asked seen input input' ticks ticks' (refused ClockFault) words_ask executed = tt
+asked_of words asked seen input input' ticks ticks' (refused (TooMany kind count limit)) words_ask executed = (asked, words_ask, executed)
+asked_of words asked seen input input' ticks ticks' (refused _) words_ask executed = absurd executed
+asked_of words asked seen input input' ticks ticks' (carried e) words_ask executed = record { asked = asked; words_ask = words_ask; request = executed.0; payload = executed.1; short = executed.2; moment = executed.3 }
 
-pub asked_words : (words : List (List ℕ)) (seen : Image) (input input' : Input) (ticks ticks' : Ticks) (fault : WordFault) → IsSpoken (Err fault) (spoken words) → IsAsked words seen input input' ticks ticks' (refused (word_refusal_of fault))
+pub asked_words : (words : List (List ℕ)) (seen : Image) (input input' : Input) (ticks ticks' : Ticks) (fault : WordFault) → IsTimedReading (Err fault) (timed_request words) → IsAsked words seen input input' ticks ticks' (refused (word_refusal_of fault))
 asked_words words seen input input' ticks ticks' (word.Bad index) is = is
 asked_words words seen input input' ticks ticks' word.NoMemory is = tt
 
@@ -77,17 +77,17 @@ module _ (s : State) (words : List (List ℕ)) (d0 d1 : Disk) (standing : Standi
   }
 
   -- the request was answered
-  pub answers_opened : (asked : Spoken) (state : State) (d2 : Disk) (input input' : Input) (ticks ticks' : Ticks) (a : Answer) → spoken words ≡ Ok asked → opened d0.seen ≡ Ok state
-      → Obeys state asked d1 d2 input input' ticks ticks' a → Answers (durable s) words d0 d2 input input' ticks ticks' a
-  answers_opened asked state d2 input input' ticks ticks' a words_ask state_is obeys' =
+  pub answers_opened : (asked : TimedRequest) (state : State) (d2 : Disk) (input input' : Input) (ticks ticks' : Ticks) (a : Answer) → timed_request words ≡ Ok asked → opened d0.seen ≡ Ok state
+      → Executes state asked d1 d2 input input' ticks ticks' a → Answers (durable s) words d0 d2 input input' ticks ticks' a
+  answers_opened asked state d2 input input' ticks ticks' a words_ask state_is executes' =
       let same : state ≡ durable s = some_same state (durable s) (sym (ap (λ (r : Result State ℕ). result_ok r) state_is) ∙ standing.each d0.seen reads) in
-      let obeys = subst (λ (x : State). Obeys x asked d1 d2 input input' ticks ticks' a) same obeys' in
-      let o : Outcome = obeys.outcome in
+      let executes = subst (λ (x : State). Executes x asked d1 d2 input input' ticks ticks' a) same executes' in
+      let o : Outcome = executes.outcome in
       record {
         outcome = o;
-        asked = asked_of words asked d0.seen input input' ticks ticks' o words_ask obeys.obeyed;
-        is = obeys.is;
-        now = obeys.now;
+        asked = asked_of words asked d0.seen input input' ticks ticks' o words_ask executes.executed;
+        is = executes.is;
+        now = executes.now;
         during = goes_on d0 d1 d2 (λ c b. ((stands c ≡ Some (durable s)) ⊎ Ends (durable s) o c) × (b ≡ d0.sent)) (opening o)
-            (record { later = obeys.during.later; each = λ t c b le left. ⊎_elim (λ was. inl was) (λ now. inr (now.0, now.1 ∙ sent)) (obeys.during.each t c b le left) });
+            (record { later = executes.during.later; each = λ t c b le left. ⊎_elim (λ was. inl was) (λ now. inr (now.0, now.1 ∙ sent)) (executes.during.each t c b le left) });
       }

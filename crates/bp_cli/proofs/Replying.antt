@@ -13,7 +13,7 @@ use Rattle.vault_disk.proofs.Moments.{goes_on, weaker}
 use Rattle.desk_model.specs.State.{State, durable}
 use Rattle.desk_model.specs.Replay.{Mark, plain, memory, fault, Entry, marked_answer}
 use Rattle.site_desk.specs.Stands.{stands, Standing}
-use Rattle.bp_cli.specs.Runs.{Outcome, refused, carried, said, IsAsked, EndsBy, Ends, Covered, Answers, Replies, Ran}
+use Rattle.bp_cli.specs.Runs.{Outcome, refused, carried, answer_given, IsAsked, EndsBy, Ends, Covered, Answers, Replies, Ran}
 use Rattle.bp_cli.proofs.StepLemmas.{unmoved_step}
 
 unmoved_by : (s : State) (e : Entry) (m : Mark) (c : Image) → NeedsMemory (marked_answer s e m) → EndsBy s e m c → stands c ≡ Some (durable s)
@@ -22,7 +22,7 @@ unmoved_by s e memory c needs ends = ends
 unmoved_by s e fault c needs ends = absurd needs
 
 -- where the text of what is said has to be made, the state is as before
-pub unmoved : (s : State) (o : Outcome) (c : Image) → NeedsMemory (said s o) → Ends s o c → stands c ≡ Some (durable s)
+pub unmoved : (s : State) (o : Outcome) (c : Image) → NeedsMemory (answer_given s o) → Ends s o c → stands c ≡ Some (durable s)
 unmoved s (refused a) c needs ends = ends
 unmoved s (carried e) c needs ends = unmoved_by s e e.mark c needs ends
 
@@ -38,9 +38,9 @@ module _ (s : State) (words : List (List ℕ)) (d0 d1 d2 : Disk) (input input' :
     (only : (c : Image) (b : List ℕ) → d0.left_since d0.moment c b → d0.may_leave c × (b ≡ d0.sent)) (same : d1.sent ≡ d0.sent) where
   module _ (o : Outcome) (asked : IsAsked words d0.seen input input' ticks ticks' o) (now : (c : Image) → d1.may_leave c → Ends (durable s) o c)
       (during : During d0 d1 (λ c b. ((stands c ≡ Some (durable s)) ⊎ Ends (durable s) o c) × (b ≡ d0.sent)))
-      (result : Result (Unit {0}) (Unit {0})) (sends : Sends (text_of (said (durable s) o)) d1 d2 result) (status_is : MatchResult result (λ _. status ≡ number_of (said (durable s) o)) (λ _. status ≡ 20)) where
+      (result : Result (Unit {0}) (Unit {0})) (sends : Sends (text_of (answer_given (durable s) o)) d1 d2 result) (status_is : MatchResult result (λ _. status ≡ number_of (answer_given (durable s) o)) (λ _. status ≡ 20)) where
     abbrev text : List ℕ
-    text = text_of (said (durable s) o)
+    text = text_of (answer_given (durable s) o)
 
     whole_of : (b : List ℕ) (p : SentPart d1.sent text b) → b ++ p.rest ≡ d0.sent ++ text
     whole_of b p = ap (λ (l : List ℕ). l ++ p.rest) p.is ∙ append_assoc d1.sent p.part p.rest ∙ ap (λ (l : List ℕ). d1.sent ++ l) (sym p.split) ∙ ap (λ (l : List ℕ). l ++ text) same
@@ -57,8 +57,8 @@ module _ (s : State) (words : List (List ℕ)) (d0 d1 d2 : Disk) (input input' :
     ran_so = record {
       outcome = o;
       asked = asked;
-      status_is = status_of result status (number_of (said (durable s) o)) status_is;
-      sent = λ ne. sent_whole result status (number_of (said (durable s) o)) text d1 d2 status_is sends ne ∙ ap (λ (l : List ℕ). l ++ text) same;
+      status_is = status_of result status (number_of (answer_given (durable s) o)) status_is;
+      sent = λ ne. sent_whole result status (number_of (answer_given (durable s) o)) text d1 d2 status_is sends ne ∙ ap (λ (l : List ℕ). l ++ text) same;
       part = (sends.part.rest, whole_of d2.sent sends.part);
       now = λ c left. now c (sends.rests.left c left);
       stops = λ c b left. ⊎_elim (λ was. let at = only c b was in inl (standing.each c at.0, at.1)) (λ covered. covered) (all_along.each d0.moment c b (omega arith) left);
@@ -69,13 +69,13 @@ module _ (s : State) (words : List (List ℕ)) (d0 d1 d2 : Disk) (input input' :
     where
       as_said : replies.sent ≡ a → Ran (durable s) words d0 d2 input input' ticks ticks' status
       as_said is =
-          let said_is : replies.sent ≡ said (durable s) answers.outcome = is ∙ answers.is in
+          let said_is : replies.sent ≡ answer_given (durable s) answers.outcome = is ∙ answers.is in
           ran_so answers.outcome answers.asked answers.now answers.during replies.result (subst (λ (x : Answer). Sends (text_of x) d1 d2 replies.result) said_is replies.sends)
           (subst (λ (x : Answer). MatchResult replies.result (λ _. status ≡ number_of x) (λ _. status ≡ 20)) said_is replies.status_is)
 
       for_memory : (replies.sent ≡ OutOfMemory) × NeedsMemory a → Ran (durable s) words d0 d2 input input' ticks ticks' status
       for_memory is =
-          let needs : NeedsMemory (said (durable s) answers.outcome) = subst NeedsMemory answers.is is.1 in
+          let needs : NeedsMemory (answer_given (durable s) answers.outcome) = subst NeedsMemory answers.is is.1 in
           let before : (c : Image) → Ends (durable s) answers.outcome c → stands c ≡ Some (durable s) = λ c ends. unmoved (durable s) answers.outcome c needs ends in
           ran_so (refused OutOfMemory) tt (λ c left. before c (answers.now c left))
           (weaker d0 d1 (λ c b. ((stands c ≡ Some (durable s)) ⊎ Ends (durable s) answers.outcome c) × (b ≡ d0.sent)) (λ c b. ((stands c ≡ Some (durable s)) ⊎ Ends (durable s) (refused OutOfMemory) c) × (b ≡ d0.sent)) (λ c b left. (inl (⊎_elim (λ was. was) (before c) left.0), left.1)) answers.during)

@@ -7,7 +7,7 @@ use Rattle.site_types.specs.declared.answer.Answer.TheVariants.{OutOfMemory, Bad
 use Rattle.site_types.specs.declared.request.Request.TheVariants.{Load}
 use Rattle.vault_disk.specs.Disk.{Disk}
 use Rattle.vault_disk.specs.Steps.{Sends}
-use Rattle.bp_cli.specs.declared.words.Spoken.{Spoken}
+use Rattle.bp_cli.specs.declared.words.TimedRequest.{TimedRequest}
 use Rattle.bp_cli.proofs.AnswerLemmas.{not_bad}
 use Rattle.bp_cli.specs.Runs.{Replies, Delivers}
 
@@ -27,7 +27,7 @@ replies_so a sent text number old new status is text_is number_is delivers = rec
 }
 
 -- the status where the words are bad, and where they aren't
-pub bad_status : (r : Result Spoken ℕ) (a : Answer) (status : ℕ) → MatchResult r (λ said. said.request ≢ Load → (i : ℕ) → a ≢ BadRequest i) (λ i. (a ≡ BadRequest i) ⊎ (a ≡ OutOfMemory)) → (status ≡ number_of a) ⊎ ((status ≡ 1) ⊎ (status ≡ 20))
+pub bad_status : (r : Result TimedRequest ℕ) (a : Answer) (status : ℕ) → MatchResult r (λ said. said.request ≢ Load → (i : ℕ) → a ≢ BadRequest i) (λ i. (a ≡ BadRequest i) ⊎ (a ≡ OutOfMemory)) → (status ≡ number_of a) ⊎ ((status ≡ 1) ⊎ (status ≡ 20))
     → MatchResult r (λ said. said.request ≢ Load → status ≢ 2) (λ _. (status ≡ 2) ⊎ ((status ≡ 1) ⊎ (status ≡ 20)))
 bad_status (Ok v) a status good is = λ other two. ⊎_elim (λ n. not_bad a (good other) (sym n ∙ two)) (λ rest. ⊎_elim (λ one. absurd (omega (arith, one, two))) (λ unsent. absurd (omega (arith, unsent, two))) rest) is
 bad_status (Err i) a status bad is = ⊎_elim (λ a_is. ⊎_elim (λ n. inl (n ∙ ap number_of a_is)) (λ other. inr other) is) (λ a_is. ⊎_elim (λ n. inr (inl (n ∙ ap number_of a_is))) (λ other. inr other) is) bad

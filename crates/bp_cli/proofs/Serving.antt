@@ -18,7 +18,7 @@ use Rattle.desk_model.specs.State.{State, durable}
 use Rattle.desk_model.specs.Replay.{Mark, plain, memory, fault, Entry, marked_state}
 use Rattle.site_desk.specs.Desk.{IsFaultOf}
 use Rattle.site_desk.specs.Stands.{opened, stands, Standing}
-use Rattle.bp_cli.specs.Runs.{Outcome, refused, carried, said, EndsBy, Ends, refusal_of}
+use Rattle.bp_cli.specs.Runs.{Outcome, refused, carried, answer_given, EndsBy, Ends, refusal_of}
 use Rattle.bp_cli.specs.Sessions.{framed, is_over, AllGoOn, GoesOn, EndsBroken, IsStatus, after_outcome, state_after, replies, EndsAfter, CoveredSo, IsAnswerTo, Answering, moment_taken, moments_taken, IsClosing, IsOfText, IsOfVault, last_number, last_status, Serves, CoversOne, Turns, RanSession, RepliesLast, RepliesUnopened}
 use Rattle.bp_cli.specs.declared.turn.Turned.{Turned}
 use Rattle.bp_cli.specs.declared.turn.Turned.TheVariants.{On, Over}
@@ -28,11 +28,11 @@ state_push : (s : State) (os : List Outcome) (o : Outcome) → state_after s (os
 state_push s [] o = refl
 state_push s (p ∷ os) o = state_push (after_outcome s p) os o
 
-replies_push : (s : State) (os : List Outcome) (o : Outcome) → replies s (os ++ o ∷ []) ≡ replies s os ++ framed (said (state_after s os) o)
-replies_push s [] o = append-nil (framed (said s o))
-replies_push s (p ∷ os) o = ap (λ (l : List ℕ). framed (said s p) ++ l) (replies_push (after_outcome s p) os o) ∙ sym (append_assoc (framed (said s p)) (replies (after_outcome s p) os) (framed (said (state_after (after_outcome s p) os) o)))
+replies_push : (s : State) (os : List Outcome) (o : Outcome) → replies s (os ++ o ∷ []) ≡ replies s os ++ framed (answer_given (state_after s os) o)
+replies_push s [] o = append-nil (framed (answer_given s o))
+replies_push s (p ∷ os) o = ap (λ (l : List ℕ). framed (answer_given s p) ++ l) (replies_push (after_outcome s p) os o) ∙ sym (append_assoc (framed (answer_given s p)) (replies (after_outcome s p) os) (framed (answer_given (state_after (after_outcome s p) os) o)))
 
-last_push : (s : State) (os : List Outcome) (o : Outcome) → last_number s (os ++ o ∷ []) ≡ number_of (said (state_after s os) o)
+last_push : (s : State) (os : List Outcome) (o : Outcome) → last_number s (os ++ o ∷ []) ≡ number_of (answer_given (state_after s os) o)
 last_push s [] o = refl
 last_push s (p ∷ []) o = refl
 last_push s (p ∷ q ∷ os) o = last_push (after_outcome s p) (q ∷ os) o
@@ -92,7 +92,7 @@ moments_broken (request w q ∷ ts) (p ∷ os) index o each = ap (λ (l : List �
 moments_broken (broken i ∷ ts) (p ∷ os) index o each = moments_broken ts os index o each.1
 
 -- whether a session goes on
-all_going : (s : State) (os : List Outcome) (o : Outcome) → AllGoOn s os → is_over (number_of (said (state_after s os) o)) ≡ false → AllGoOn s (os ++ o ∷ [])
+all_going : (s : State) (os : List Outcome) (o : Outcome) → AllGoOn s os → is_over (number_of (answer_given (state_after s os) o)) ≡ false → AllGoOn s (os ++ o ∷ [])
 all_going s [] o going here = (here, tt)
 all_going s (p ∷ os) o going here = (going.0, all_going (after_outcome s p) os o going.1 here)
 
@@ -164,13 +164,13 @@ abbrev pub any_found : Result State ℕ
 any_found = Err 0
 
 module _ (found : Result State ℕ) (s : State) (d0 d : Disk) (input0 input : Input) (held : List ℕ) (ticks0 ticks : Ticks) (state : State) (served : Served s d0 d input0 input held ticks0 ticks state) where
-  module _ (o : Outcome) (d' : Disk) (part : (rest : List ℕ) × (d'.sent ++ rest ≡ d.sent ++ framed (said state o))) (now : (c : Image) → d'.may_leave c → Ends state o c) (during : During d d' (CoversOne state o d.sent)) where
+  module _ (o : Outcome) (d' : Disk) (part : (rest : List ℕ) × (d'.sent ++ rest ≡ d.sent ++ framed (answer_given state o))) (now : (c : Image) → d'.may_leave c → Ends state o c) (during : During d d' (CoversOne state o d.sent)) where
     abbrev all : List Outcome
     all = served.outcomes ++ o ∷ []
 
-    text_is : d.sent ++ framed (said state o) ≡ d0.sent ++ replies s all
+    text_is : d.sent ++ framed (answer_given state o) ≡ d0.sent ++ replies s all
     text_is =
-        (λ i. served.sent i ++ framed (said (served.state_is i) o)) ∙ append_assoc d0.sent (replies s served.outcomes) (framed (said (state_after s served.outcomes) o))
+        (λ i. served.sent i ++ framed (answer_given (served.state_is i) o)) ∙ append_assoc d0.sent (replies s served.outcomes) (framed (answer_given (state_after s served.outcomes) o))
         ∙ ap (λ (l : List ℕ). d0.sent ++ l) (sym (replies_push s served.outcomes o))
 
     ends_so : (c : Image) → Ends state o c → EndsAfter s all c
@@ -186,10 +186,10 @@ module _ (found : Result State ℕ) (s : State) (d0 d : Disk) (input0 input : In
         (weaker d0 d (CoveredSo s served.outcomes d0.sent) (CoveredSo s all d0.sent) (λ c b covered. covered_more s served.outcomes o d0.sent c b covered) served.during)
         (weaker d d' (CoversOne state o d.sent) (CoveredSo s all d0.sent) covers during)
 
-    pub number_is : number_of (said state o) ≡ last_number s all
-    number_is = ap (λ (x : State). number_of (said x o)) served.state_is ∙ sym (last_push s served.outcomes o)
+    pub number_is : number_of (answer_given state o) ≡ last_number s all
+    number_is = ap (λ (x : State). number_of (answer_given x o)) served.state_is ∙ sym (last_push s served.outcomes o)
 
-    pub ended : (status : ℕ) → (status ≡ 20) ⊎ ((status ≡ number_of (said state o)) × (d'.sent ≡ d.sent ++ framed (said state o))) → Ended s d0 d' all status
+    pub ended : (status : ℕ) → (status ≡ 20) ⊎ ((status ≡ number_of (answer_given state o)) × (d'.sent ≡ d.sent ++ framed (answer_given state o))) → Ended s d0 d' all status
     ended status whole = record {
       sent = λ ne. ⊎_elim (λ unsent. absurd (ne unsent)) (λ w. w.1 ∙ text_is) whole;
       part = (part.0, part.1 ∙ text_is);
@@ -197,7 +197,7 @@ module _ (found : Result State ℕ) (s : State) (d0 d : Disk) (input0 input : In
       during = during_all;
     }
 
-    pub ended_well : d'.sent ≡ d.sent ++ framed (said state o) → Ended s d0 d' all 0
+    pub ended_well : d'.sent ≡ d.sent ++ framed (answer_given state o) → Ended s d0 d' all 0
     ended_well whole = record {
       sent = λ ne. whole ∙ text_is;
       part = (part.0, part.1 ∙ text_is);
@@ -221,7 +221,7 @@ module _ (found : Result State ℕ) (s : State) (d0 d : Disk) (input0 input : In
         sent = turned.turned.0 ∙ text_is o d' turned.part turned.now turned.during;
         during = during_all o d' turned.part turned.now turned.during;
         unbroken = ends_request served.answered words payload;
-        going = all_going s served.outcomes o served.going (subst (λ (x : State). is_over (number_of (said x o)) ≡ false) served.state_is turned.turned.3);
+        going = all_going s served.outcomes o served.going (subst (λ (x : State). is_over (number_of (answer_given x o)) ≡ false) served.state_is turned.turned.3);
       }
 
   abbrev all_moments : Ticks → List Turn → List Outcome → Type 0
@@ -296,6 +296,24 @@ module _ (found : Result State ℕ) (s : State) (d0 d : Disk) (input0 input : In
         (λ tells. served.moments tells ∙ ap (λ (l : List ℕ). ticks0.gave ++ l) (sym (moments_broken served.answered served.outcomes index (refused last.sent) served.each)))
         (⊎_elim (λ unsent. inr (inr unsent)) (λ w. inr (inl (w.0 ∙ closing_number ∙ ap (λ (l : List Outcome). last_number s l) (sym (append-nil (served.outcomes ++ refused last.sent ∷ []))), inr (inl (ends_broken served.answered index))))) last.whole) (but_last s served.outcomes (refused last.sent) served.going) closing_ended
 
+-- a session as it was served, where this is known of another disk
+abbrev over_disk : (found : Result State ℕ) (s : State) (d0 d d0' d' : Disk) (input input' : Input) (ticks ticks' : Ticks) (status : ℕ) (x : Serves found s d0 d input input' ticks ticks' status) → Ended s d0' d' (x.outcomes ++ x.closing) status → Serves found s d0' d' input input' ticks ticks' status
+over_disk found s d0 d d0' d' input input' ticks ticks' status x e = record {
+  answered = x.answered;
+  outcomes = x.outcomes;
+  closing = x.closing;
+  each = x.each;
+  vault = x.vault;
+  text = x.text;
+  moments = x.moments;
+  goes_on = x.goes_on;
+  status_is = x.status_is;
+  sent = e.sent;
+  part = e.part;
+  now = e.now;
+  during = e.during;
+}
+
 -- a session from the start of a run
 module _ (s : State) (d0 d1 : Disk) (starts : (c : Image) → d1.may_leave c → stands c ≡ Some (durable s)) (sent : d1.sent ≡ d0.sent) (opening : During d0 d1 (λ c b. (stands c ≡ Some (durable s)) × (b ≡ d0.sent))) where
   covered_at_start : (all : List Outcome) → During d0 d1 (CoveredSo (durable s) all d0.sent)
@@ -307,22 +325,13 @@ module _ (s : State) (d0 d1 : Disk) (starts : (c : Image) → d1.may_leave c →
   serves_opened found state d2 input input' ticks ticks' status state_is served =
       let x = subst (λ (y : State). Serves found y d1 d2 input input' ticks ticks' status) state_is served in
       let os : List Outcome = x.outcomes ++ x.closing in
-      record {
-        answered = x.answered;
-        outcomes = x.outcomes;
-        closing = x.closing;
-        each = x.each;
-        vault = x.vault;
-        text = x.text;
-        moments = x.moments;
-        goes_on = x.goes_on;
-        status_is = x.status_is;
+      over_disk found (durable s) d1 d2 d0 d2 input input' ticks ticks' status x (record {
         sent = λ ne. x.sent ne ∙ ap (λ (l : List ℕ). l ++ replies (durable s) os) sent;
         part = (x.part.0, x.part.1 ∙ ap (λ (l : List ℕ). l ++ replies (durable s) os) sent);
         now = x.now;
         during = goes_on d0 d1 d2 (CoveredSo (durable s) os d0.sent) (covered_at_start os)
             (weaker d1 d2 (CoveredSo (durable s) os d1.sent) (CoveredSo (durable s) os d0.sent) (λ c b covered. subst (λ (base : List ℕ). CoveredSo (durable s) os base c b) sent covered) x.during);
-      }
+      })
 
   last_of : (a : Answer) (d2 : Disk) (status : ℕ) → RepliesUnopened a d1 d2 status → RepliesLast a d1 d2 status
   last_of a d2 status replies_so = record { sent = replies_so.sent; is = replies_so.is; rests = replies_so.delivers.sends.rests; during = replies_so.delivers.sends.during; part = replies_so.delivers.sends.part; whole = whole replies_so.delivers.result replies_so.delivers.status_is replies_so.delivers.sends.sent }
@@ -382,21 +391,12 @@ pub session_ran : (s : State) (d0 d2 : Disk) (input input' : Input) (ticks ticks
 session_ran s d0 d2 input input' ticks ticks' status p0 p1 standing only x =
     let os : List Outcome = x.outcomes ++ x.closing in
     record {
-      serves = record {
-        answered = x.answered;
-        outcomes = x.outcomes;
-        closing = x.closing;
-        each = x.each;
-        vault = x.vault;
-        text = x.text;
-        moments = x.moments;
-        goes_on = x.goes_on;
-        status_is = x.status_is;
+      serves = over_disk (opened d0.seen) (durable s) (record d0 { place = p0 }) (record d2 { place = p1 }) d0 d2 input input' ticks ticks' status x (record {
         sent = x.sent;
         part = x.part;
         now = x.now;
         during = record { later = x.during.later; each = x.during.each };
-      };
+      });
       stops = λ c b left. ⊎_elim
           (λ was. let at = only c b was in record { done = []; more = os; split = refl; ends = standing.each c at.0; rest = []; sent = append-nil b ∙ at.1 ∙ sym (append-nil d0.sent) })
           (λ covered. covered) (x.during.each d0.moment c b (omega arith) left);

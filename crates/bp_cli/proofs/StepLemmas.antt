@@ -1,47 +1,42 @@
 -- What a step answers.
-use Rattle.std.proofs.Common.{◌≡◌, ℕ, List, [], length, Result, Ok, Err, refl, sym, subst}
+use Rattle.std.proofs.Common.{◌≡◌, ℕ, List, refl, sym, subst}
 use Rattle.std.specs.Prelude.{Option, Some, None}
 use Rattle.site_types.specs.Answers.{NeedsMemory}
+use Rattle.site_types.specs.Classes.{RequestClass, site_change, site_file, backup, restore, class_of}
 use Rattle.site_types.specs.Requests.{takes_payload}
 use Rattle.site_types.specs.declared.request.Request.{Request}
-use Rattle.site_types.specs.declared.request.Request.TheVariants.{Load, Backup, Restore}
 use Rattle.site_types.specs.declared.answer.Answer.{Answer}
-use Rattle.site_types.specs.declared.answer.Answer.TheVariants.{Done, BadRequest, SendFault, NotAVault}
+use Rattle.site_types.specs.declared.answer.Answer.TheVariants.{BadRequest, SendFault, NotAVault}
 use Rattle.vault_disk.specs.Input.{Input}
 use Rattle.vault_disk.specs.Ticks.{Ticks}
-use Rattle.desk_model.specs.State.{State, image_named}
+use Rattle.desk_model.specs.State.{State}
 use Rattle.desk_model.specs.Refusals.{first_refusal, unless_refused}
-use Rattle.desk_model.specs.Backups.{asked_of, backup_refusals, backup_done}
-use Rattle.desk_model.specs.Settings.{setting_refusals, set_by, all_set, load_of, load_result, file_requests}
-use Rattle.desk_model.specs.Step.{step, restore_refusals, bytes_of}
+use Rattle.desk_model.specs.Step.{case_of, step}
 use Rattle.site_desk.specs.Desk as desk
 use Rattle.bp_cli.specs.Gather.{Gathers, IsGiven}
 use Rattle.bp_cli.specs.Runs.{IsNoFile, IsOfRequest}
-use Rattle.bp_cli.specs.declared.gather.Gathered.{Gathered}
-use Rattle.bp_cli.specs.declared.words.Spoken.{Spoken}
+use Rattle.bp_cli.specs.declared.gather.Inputs.{Inputs}
+use Rattle.bp_cli.specs.declared.words.TimedRequest.{TimedRequest}
 
-unmoved : (s : State) (refusal : Option Answer) (done : Answer × State) → (NeedsMemory done.0 → ⊥) → NeedsMemory (unless_refused s refusal done).0 → (unless_refused s refusal done).1 ≡ s
-unmoved s (Some a) done ready needs = refl
-unmoved s None done ready needs = absurd (ready needs)
+-- where nothing refuses a request, the text of its answer stands ready
+ready : (s : State) (class : RequestClass) (payload : List ℕ) (moment : ℕ) → NeedsMemory (case_of s class payload moment).answer → ⊥
+ready s (site_change request) payload moment none = none
+ready s site_file payload moment none = none
+ready s (backup client policy schedule start) payload moment none = none
+ready s (restore id copy) payload moment none = none
 
-unmoved_by : (requests : List Request) (s : State) (result : Result State Answer) → NeedsMemory (load_result requests s result).0 → (load_result requests s result).1 ≡ s
-unmoved_by requests s (Ok t) needs = absurd needs
-unmoved_by requests s (Err a) needs = refl
-
-unmoved_load : (o : Option (List Request)) (s : State) → NeedsMemory (load_of o s).0 → (load_of o s).1 ≡ s
-unmoved_load None s needs = refl
-unmoved_load (Some requests) s needs = unmoved_by requests s (all_set requests s) needs
+unmoved : (s : State) (refusal shown : Option Answer) (done : Answer × State) → (NeedsMemory done.0 → ⊥) → NeedsMemory (unless_refused s refusal (unless_refused s shown done)).0 → (unless_refused s refusal (unless_refused s shown done)).1 ≡ s
+unmoved s (Some a) shown done is_ready needs = refl
+unmoved s None (Some a) done is_ready needs = refl
+unmoved s None None done is_ready needs = absurd (is_ready needs)
 
 -- where the text of the model's answer has to be made, the state is as before
 pub unmoved_step : (s : State) (r : Request) (payload : List ℕ) (moment : ℕ) → NeedsMemory (step s r payload moment).0 → (step s r payload moment).1 ≡ s
-unmoved_step s Load payload moment needs = unmoved_load (file_requests payload) s needs
-unmoved_step s (Backup client policy schedule start) payload moment needs =
-    let asked = asked_of client policy schedule start (length payload) in
-    unmoved s (first_refusal (backup_refusals asked moment s)) (backup_done asked payload moment s) (λ none. none) needs
-unmoved_step s (Restore id copy) payload moment needs = unmoved s (first_refusal (restore_refusals (image_named id s.images) id copy)) (Done (bytes_of (image_named id s.images)), s) (λ none. none) needs
-unmoved_step s r payload moment needs = unmoved s (first_refusal (setting_refusals r s)) (Done [], set_by r s) (λ none. none) needs
+unmoved_step s r payload moment needs =
+    let c = case_of s (class_of r) payload moment in
+    unmoved s (first_refusal c.refusals) (first_refusal c.shown) (c.answer, c.after) (ready s (class_of r) payload moment) needs
 
-module _ (asked : Spoken) (input input' : Input) (ticks ticks' : Ticks) (g : Gathered) (payload : List ℕ) (same : payload ≡ g.payload) (gathers : Gathers (takes_payload asked.request) asked.moment input input' ticks ticks' g) where
+module _ (asked : TimedRequest) (input input' : Input) (ticks ticks' : Ticks) (g : Inputs) (payload : List ℕ) (same : payload ≡ g.payload) (gathers : Gathers (takes_payload asked.request) asked.moment input input' ticks ticks' g) where
   -- the payload is no site file
   pub no_file : (index : ℕ) → desk.IsOfRequest asked.request payload (BadRequest index) → IsNoFile asked input input' index
   no_file index kinds = record { load = kinds.0; first = kinds.1; payload = payload; given = subst (λ (x : List ℕ). IsGiven (takes_payload asked.request) x input input') (sym same) gathers.payload; none = kinds.2 }

@@ -11,7 +11,7 @@ use Rattle.vault_disk.proofs.Moments.{goes_on, weaker}
 use Rattle.desk_model.specs.State.{State, durable}
 use Rattle.desk_model.specs.Replay.{Mark, plain, memory, fault, Entry, marked_answer, marked_state}
 use Rattle.site_desk.specs.Stands.{stands, Standing}
-use Rattle.bp_cli.specs.Runs.{Outcome, refused, carried, said, Ends}
+use Rattle.bp_cli.specs.Runs.{Outcome, refused, carried, answer_given, Ends}
 use Rattle.bp_cli.specs.Sessions.{framed, is_over, after_outcome, moment_taken, IsAnswerTo, Takes, IsWholeReply, IsTurned, CoversOne, Turns}
 use Rattle.bp_cli.specs.declared.turn.Turned.{Turned}
 use Rattle.bp_cli.specs.declared.turn.Turned.TheVariants.{On, Over}
@@ -23,9 +23,9 @@ abbrev pub forgotten : Outcome → Outcome
 forgotten (refused a) = refused OutOfMemory
 forgotten (carried e) = carried (record e { mark = memory })
 
-forgotten_said : (s : State) (o : Outcome) → said s (forgotten o) ≡ OutOfMemory
-forgotten_said s (refused a) = refl
-forgotten_said s (carried e) = refl
+forgotten_given : (s : State) (o : Outcome) → answer_given s (forgotten o) ≡ OutOfMemory
+forgotten_given s (refused a) = refl
+forgotten_given s (carried e) = refl
 
 forgotten_to : (words : List (List ℕ)) (payload : List ℕ) (o : Outcome) → IsAnswerTo words payload o → IsAnswerTo words payload (forgotten o)
 forgotten_to words payload (refused a) to = tt
@@ -44,17 +44,17 @@ marked_still s e plain needs = unmoved_step s e.request e.payload e.moment needs
 marked_still s e memory needs = refl
 marked_still s e fault needs = refl
 
-forgotten_after : (s : State) (o : Outcome) → NeedsMemory (said s o) → after_outcome s o ≡ after_outcome s (forgotten o)
+forgotten_after : (s : State) (o : Outcome) → NeedsMemory (answer_given s o) → after_outcome s o ≡ after_outcome s (forgotten o)
 forgotten_after s (refused a) needs = refl
 forgotten_after s (carried e) needs = marked_still s e e.mark needs
 
 module _ (s : State) (words : List (List ℕ)) (payload : List ℕ) (d0 d1 d2 : Disk) (ticks ticks' : Ticks) (same : d1.sent ≡ d0.sent) (rests : Rests d1 d2) (state : State) where
   module _ (o : Outcome) (to : IsAnswerTo words payload o) (taken : ticks.tells → ticks'.gave ≡ ticks.gave ++ moment_taken words o) (now : (c : Image) → d1.may_leave c → Ends s o c)
-      (first : During d0 d1 (λ c b. ((stands c ≡ Some (durable s)) ⊎ Ends s o c) × (b ≡ d0.sent))) (sent : Answer) (sent_is : sent ≡ said s o) (second : During d1 d2 (λ c b. d1.may_leave c × SentPart d1.sent (framed sent) b)) (part : SentPart d1.sent (framed sent) d2.sent) where
-    text_is : d1.sent ++ framed sent ≡ d0.sent ++ framed (said s o)
+      (first : During d0 d1 (λ c b. ((stands c ≡ Some (durable s)) ⊎ Ends s o c) × (b ≡ d0.sent))) (sent : Answer) (sent_is : sent ≡ answer_given s o) (second : During d1 d2 (λ c b. d1.may_leave c × SentPart d1.sent (framed sent) b)) (part : SentPart d1.sent (framed sent) d2.sent) where
+    text_is : d1.sent ++ framed sent ≡ d0.sent ++ framed (answer_given s o)
     text_is = (λ i. same i ++ framed (sent_is i))
 
-    whole_of : (b : List ℕ) (p : SentPart d1.sent (framed sent) b) → b ++ p.rest ≡ d0.sent ++ framed (said s o)
+    whole_of : (b : List ℕ) (p : SentPart d1.sent (framed sent) b) → b ++ p.rest ≡ d0.sent ++ framed (answer_given s o)
     whole_of b p = ap (λ (l : List ℕ). l ++ p.rest) p.is ∙ append_assoc d1.sent p.part p.rest ∙ ap (λ (l : List ℕ). d1.sent ++ l) (sym p.split) ∙ text_is
 
     turned_so : (t : Turned) → IsTurned s o d0 d2 state t → Turns s words payload d0 d2 ticks ticks' state t
@@ -66,7 +66,7 @@ module _ (s : State) (words : List (List ℕ)) (payload : List ℕ) (d0 d1 d2 : 
       part = (part.rest, whole_of d2.sent part);
       during = goes_on d0 d1 d2 (CoversOne s o d0.sent)
           (weaker d0 d1 (λ c b. ((stands c ≡ Some (durable s)) ⊎ Ends s o c) × (b ≡ d0.sent)) (CoversOne s o d0.sent)
-          (λ c b left. ⊎_elim (λ was. inl (was, left.1)) (λ ends. inr (ends, (framed (said s o), ap (λ (l : List ℕ). l ++ framed (said s o)) left.1))) left.0) first)
+          (λ c b left. ⊎_elim (λ was. inl (was, left.1)) (λ ends. inr (ends, (framed (answer_given s o), ap (λ (l : List ℕ). l ++ framed (answer_given s o)) left.1))) left.0) first)
           (weaker d1 d2 (λ c b. d1.may_leave c × SentPart d1.sent (framed sent) b) (CoversOne s o d0.sent) (λ c b left. inr (now c left.0, (left.1.rest, whole_of b left.1))) second);
       turned = turned;
     }
@@ -89,8 +89,8 @@ module _ (s : State) (words : List (List ℕ)) (payload : List ℕ) (d0 d1 d2 : 
         for_memory : (sent ≡ OutOfMemory) × NeedsMemory a → Turns s words payload d0 d2 ticks ticks' state t
         for_memory out =
             let o : Outcome = takes.outcome in
-            let needs : NeedsMemory (said s o) = subst NeedsMemory takes.is out.1 in
+            let needs : NeedsMemory (answer_given s o) = subst NeedsMemory takes.is out.1 in
             let before : (c : Image) → Ends s o c → stands c ≡ Some (durable s) = λ c ends. unmoved s o c needs ends in
             turned_by (forgotten o) (forgotten_to words payload o takes.answer_to) (λ tells. takes.moment tells ∙ ap (λ (l : List ℕ). ticks.gave ++ l) (sym (forgotten_moment words o))) (λ c left. forgotten_ends s o c (before c (takes.now c left)))
             (weaker d0 d1 (λ c b. ((stands c ≡ Some (durable s)) ⊎ Ends s o c) × (b ≡ d0.sent)) (λ c b. ((stands c ≡ Some (durable s)) ⊎ Ends s (forgotten o) c) × (b ≡ d0.sent)) (λ c b left. (inl (⊎_elim (λ was. was) (before c) left.0), left.1)) takes.during)
-            sent (out.0 ∙ sym (forgotten_said s o)) second part t whole (λ on. let m = moved on in (m.0 ∙ forgotten_after s o needs, m.1))
+            sent (out.0 ∙ sym (forgotten_given s o)) second part t whole (λ on. let m = moved on in (m.0 ∙ forgotten_after s o needs, m.1))

@@ -14,14 +14,14 @@ use Rattle.desk_model.specs.State.{State}
 use Rattle.desk_model.specs.Step.{step}
 use Rattle.site_desk.specs.Stands.{opened}
 use Rattle.bp_cli.specs.Runs.{IsNoFile}
-use Rattle.bp_cli.specs.Words.{spoken}
+use Rattle.bp_cli.specs.Words.{timed_request}
 use Rattle.bp_cli.specs.Gather.{IsGiven, IsMoment, IsTooLong}
 use Rattle.bp_cli.specs.Sessions.{framed, EndsBroken}
-use Rattle.bp_cli.specs.declared.words.Spoken.{Spoken}
+use Rattle.bp_cli.specs.declared.words.TimedRequest.{TimedRequest}
 
 -- The payload is the whole of the source and within its limit, or none where the request takes none; the moment is the one that is named, or else one that the clock gave; and on a vault that
 -- tells what it holds the answer is the model's, from this state.
-pub record IsModels (asked : Spoken) (tells : Type 0) (state : State) (input input' : Input) (ticks ticks' : Ticks) (a : Answer) : Type 0 where
+pub record IsModels (asked : TimedRequest) (tells : Type 0) (state : State) (input input' : Input) (ticks ticks' : Ticks) (a : Answer) : Type 0 where
   pub payload : List ℕ
   pub given : IsGiven (takes_payload asked.request) payload input input'
   pub short : length payload ≤ payload_limit
@@ -30,7 +30,7 @@ pub record IsModels (asked : Spoken) (tells : Type 0) (state : State) (input inp
   pub is : tells → a ≡ (step state asked.request payload moment).0
 
 -- why a desk with this state answers a request so; faults are told of by their counts
-abbrev pub IsCausedHere : Spoken → Type 0 → State → Input → Input → Ticks → Ticks → Answer → Type 0
+abbrev pub IsCausedHere : TimedRequest → Type 0 → State → Input → Input → Ticks → Ticks → Answer → Type 0
 IsCausedHere asked tells state input input' ticks ticks' OutOfMemory = Unit {0}
 IsCausedHere asked tells state input input' ticks ticks' DiskFault = Unit {0}
 IsCausedHere asked tells state input input' ticks ticks' ReadFault = Unit {0}
@@ -41,8 +41,8 @@ IsCausedHere asked tells state input input' ticks ticks' a = IsModels asked tell
 
 -- the words ask for something
 pub record Asks (words : List (List ℕ)) : Type 0 where
-  pub asked : Spoken
-  pub words_ask : spoken words ≡ Ok asked
+  pub asked : TimedRequest
+  pub words_ask : timed_request words ≡ Ok asked
 
 -- and the vault opens, where it tells what it holds: with this state
 pub record Heard (words : List (List ℕ)) (tells : Type 0) (seen : Image) : Type 0 where
@@ -57,7 +57,7 @@ pub record IsCausedBy (words : List (List ℕ)) (tells : Type 0) (seen : Image) 
 
 abbrev pub IsCaused : List (List ℕ) → Type 0 → Image → Input → Input → Ticks → Ticks → Answer → Type 0
 IsCaused words tells seen input input' ticks ticks' OutOfMemory = Unit {0}
-IsCaused words tells seen input input' ticks ticks' (BadRequest index) = (spoken words ≡ Err index) ⊎ IsCausedBy words tells seen input input' ticks ticks' (BadRequest index)
+IsCaused words tells seen input input' ticks ticks' (BadRequest index) = (timed_request words ≡ Err index) ⊎ IsCausedBy words tells seen input input' ticks ticks' (BadRequest index)
 IsCaused words tells seen input input' ticks ticks' DiskFault = Asks words
 IsCaused words tells seen input input' ticks ticks' SendFault = ⊥
 IsCaused words tells seen input input' ticks ticks' (NotAVault offset) = Asks words × (tells → opened seen ≡ Err offset)
@@ -84,21 +84,31 @@ pub record IsReadOut (text left : List ℕ) : Type 0 where
   pub nothing : left ≡ []
   pub unbroken : EndsBroken (turns text) → ⊥
 
--- The answer that ended a session: a bad request where the framing of its text is broken, no vault where it isn't opened, want of memory or a fault; and no other.
+-- what ended the serving of a session on an open vault: a bad request where the framing of its text is broken, want of memory or a fault; and no other answer
+abbrev pub EndsServing : Input → Answer → Type 0
+EndsServing input OutOfMemory = Unit {0}
+EndsServing input (BadRequest index) = input.tells → IsBrokenAt input.left index
+EndsServing input DiskFault = Unit {0}
+EndsServing input ReadFault = Unit {0}
+EndsServing input ClockFault = Unit {0}
+EndsServing input _ = ⊥
+
+-- The answer that ended a session: no vault where it isn't opened, want of memory or a fault of the disk; or one that ended its serving on the vault that was opened.
 abbrev pub EndsSession : Disk → Input → Answer → Type 0
 EndsSession disk input OutOfMemory = Unit {0}
-EndsSession disk input (BadRequest index) = Opening disk × (input.tells → IsBrokenAt input.left index)
 EndsSession disk input DiskFault = Unit {0}
-EndsSession disk input ReadFault = Opening disk
-EndsSession disk input ClockFault = Opening disk
 EndsSession disk input (NotAVault offset) = disk.tells → opened disk.seen ≡ Err offset
-EndsSession disk input _ = ⊥
+EndsSession disk input a = Opening disk × EndsServing input a
 
--- an answer ended the session, and its number is the status
-pub record IsEnded (disk : Disk) (input : Input) (status : ℕ) : Type 0 where
+-- an answer of these ended it, and the status is its number
+pub record IsEnded (ends : Answer → Type 0) (status : ℕ) : Type 0 where
   pub answer : Answer
-  pub ends : EndsSession disk input answer
+  pub ended : ends answer
   pub status_is : status ≡ number_of answer
+
+-- how it ended: it was done, and the status is 0; or one of these answers ended it; or a send failed
+abbrev pub HasEnded : Type 0 → (Answer → Type 0) → ℕ → Type 0
+HasEnded done ends status = ((status ≡ 0) × done) ⊎ (IsEnded ends status ⊎ (status ≡ 20))
 
 -- A vault that stands for no state is answered so: with the offset at which it is none, or want of memory or a fault of the disk in its place; the reply has its frame, and with status 20 a first part of it was sent.
 pub record RefusesVault (offset : ℕ) (old new : Disk) (status : ℕ) : Type 0 where
@@ -109,24 +119,9 @@ pub record RefusesVault (offset : ℕ) (old new : Disk) (status : ℕ) : Type 0 
 
 -- Why a session ended with its status: 0 at the end of its text, the number of the answer that ended it, or 20 where a send failed. A vault that stands for no state has its answer and no other.
 pub record SessionCaused (old new : Disk) (input input' : Input) (status : ℕ) : Type 0 where
-  pub ends : ((status ≡ 0) × Opening old × (input.tells → IsReadOut input.left input'.left)) ⊎ (IsEnded old input status ⊎ (status ≡ 20))
+  pub ends : HasEnded (Opening old × (input.tells → IsReadOut input.left input'.left)) (EndsSession old input) status
   pub unopened : (offset : ℕ) → old.tells → opened old.seen ≡ Err offset → RefusesVault offset old new status
 
--- what ended the serving of a session on an open vault
-abbrev pub EndsServing : Input → Answer → Type 0
-EndsServing input OutOfMemory = Unit {0}
-EndsServing input (BadRequest index) = input.tells → IsBrokenAt input.left index
-EndsServing input DiskFault = Unit {0}
-EndsServing input ReadFault = Unit {0}
-EndsServing input ClockFault = Unit {0}
-EndsServing input _ = ⊥
-
--- an answer ended the serving, and its number is the status
-pub record IsEndedServing (input : Input) (status : ℕ) : Type 0 where
-  pub answer : Answer
-  pub ends : EndsServing input answer
-  pub status_is : status ≡ number_of answer
-
--- why the serving of a session ended: its text did, or an answer ended it, or a send failed
+-- why the serving of a session ended
 abbrev pub ServingEnded : Input → Input → ℕ → Type 0
-ServingEnded input input' status = ((status ≡ 0) × (input.tells → IsReadOut input.left input'.left)) ⊎ (IsEndedServing input status ⊎ (status ≡ 20))
+ServingEnded input input' status = HasEnded (input.tells → IsReadOut input.left input'.left) (EndsServing input) status

@@ -5,7 +5,7 @@ use Rattle.site_types.specs.declared.answer.Answer.TheVariants.{OutOfMemory, Too
 use Rattle.vault_disk.specs.Input.{Input}
 use Rattle.vault_disk.specs.Ticks.{Ticks}
 use Rattle.site_types.specs.Limits.{last_moment, payload_limit}
-use Rattle.bp_cli.specs.declared.gather.Gathered.{Gathered}
+use Rattle.bp_cli.specs.declared.gather.Inputs.{Inputs}
 
 -- the payload is all that was left
 pub record IsPayload (payload : List ℕ) (old new : Input) : Type 0 where
@@ -52,7 +52,7 @@ IsUngathered takes ClockFault old = Unit {0}
 IsUngathered takes (TooMany kind count limit) old = IsTooLong takes kind count limit old
 IsUngathered takes _ old = ⊥
 
-pub record Gathers (takes : Bool) (named : Option ℕ) (input input' : Input) (ticks ticks' : Ticks) (g : Gathered) : Type 0 where
+pub record Gathers (takes : Bool) (named : Option ℕ) (input input' : Input) (ticks ticks' : Ticks) (g : Inputs) : Type 0 where
   pub payload : IsGiven takes g.payload input input'
   pub short : length g.payload ≤ payload_limit
   pub moment : IsMoment named g.moment ticks ticks'

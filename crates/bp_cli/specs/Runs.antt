@@ -18,9 +18,9 @@ use Rattle.desk_model.specs.State.{State, durable}
 use Rattle.desk_model.specs.Settings.{file_requests}
 use Rattle.desk_model.specs.Replay.{Mark, plain, memory, fault, Entry, stepped, answer_of}
 use Rattle.site_desk.specs.Stands.{opened, stands, StandsFor}
-use Rattle.bp_cli.specs.Words.{spoken}
+use Rattle.bp_cli.specs.Words.{timed_request}
 use Rattle.bp_cli.specs.Gather.{IsGiven, IsMoment, IsTooLong, IsUngathered}
-use Rattle.bp_cli.specs.declared.words.Spoken.{Spoken}
+use Rattle.bp_cli.specs.declared.words.TimedRequest.{TimedRequest}
 
 -- nothing was carried out, or one request with its payload at a moment
 pub data Outcome : Type 0 where
@@ -28,15 +28,15 @@ pub data Outcome : Type 0 where
   carried : Entry → Outcome
 
 -- the answer to a run that begins in this state
-abbrev pub said : State → Outcome → Answer
-said s (refused answer) = answer
-said s (carried e) = answer_of s e
+abbrev pub answer_given : State → Outcome → Answer
+answer_given s (refused answer) = answer
+answer_given s (carried e) = answer_of s e
 
 -- The request is what the words ask for, its payload is the whole of the source and within its limit, or none where it takes none, and it is carried out at the moment that the words
 -- name, or else at one that the clock gave.
 pub record IsCarried (words : List (List ℕ)) (input input' : Input) (ticks ticks' : Ticks) (e : Entry) : Type 0 where
-  pub asked : Spoken
-  pub words_ask : spoken words ≡ Ok asked
+  pub asked : TimedRequest
+  pub words_ask : timed_request words ≡ Ok asked
   pub request : e.request ≡ asked.request
   pub payload : IsGiven (takes_payload asked.request) e.payload input input'
   pub short : length e.payload ≤ payload_limit
@@ -46,8 +46,8 @@ pub record IsCarried (words : List (List ℕ)) (input input' : Input) (ticks tic
 -- at which the vault is none. Want of memory and faults are told of by clauses of their own.
 abbrev pub IsAsked : List (List ℕ) → Image → Input → Input → Ticks → Ticks → Outcome → Type 0
 IsAsked words seen input input' ticks ticks' (refused OutOfMemory) = Unit {0}
-IsAsked words seen input input' ticks ticks' (refused (BadRequest index)) = spoken words ≡ Err index
-IsAsked words seen input input' ticks ticks' (refused (TooMany kind count limit)) = (asked : Spoken) × (spoken words ≡ Ok asked) × IsTooLong (takes_payload asked.request) kind count limit input
+IsAsked words seen input input' ticks ticks' (refused (BadRequest index)) = timed_request words ≡ Err index
+IsAsked words seen input input' ticks ticks' (refused (TooMany kind count limit)) = (asked : TimedRequest) × (timed_request words ≡ Ok asked) × IsTooLong (takes_payload asked.request) kind count limit input
 IsAsked words seen input input' ticks ticks' (refused DiskFault) = Unit {0}
 IsAsked words seen input input' ticks ticks' (refused ReadFault) = Unit {0}
 IsAsked words seen input input' ticks ticks' (refused ClockFault) = Unit {0}
@@ -56,9 +56,9 @@ IsAsked words seen input input' ticks ticks' (refused _) = ⊥
 IsAsked words seen input input' ticks ticks' (carried e) = IsCarried words input input' ticks ticks' e
 
 -- a request on an open vault
-abbrev pub IsObeyed : Spoken → Input → Input → Ticks → Ticks → Outcome → Type 0
-IsObeyed asked input input' ticks ticks' (refused answer) = IsUngathered (takes_payload asked.request) answer input
-IsObeyed asked input input' ticks ticks' (carried e) = (e.request ≡ asked.request) × IsGiven (takes_payload asked.request) e.payload input input' × (length e.payload ≤ payload_limit) × IsMoment asked.moment e.moment ticks ticks'
+abbrev pub IsExecuted : TimedRequest → Input → Input → Ticks → Ticks → Outcome → Type 0
+IsExecuted asked input input' ticks ticks' (refused answer) = IsUngathered (takes_payload asked.request) answer input
+IsExecuted asked input input' ticks ticks' (carried e) = (e.request ≡ asked.request) × IsGiven (takes_payload asked.request) e.payload input input' × (length e.payload ≤ payload_limit) × IsMoment asked.moment e.moment ticks ticks'
 
 -- what is answered to words that ask for nothing
 abbrev pub word_refusal_of : WordFault → Answer
@@ -72,7 +72,7 @@ refusal_of journal.DiskFault = DiskFault
 refusal_of (journal.NotAVault offset) = NotAVault offset
 
 -- a payload that is to be loaded is no site file
-pub record IsNoFile (asked : Spoken) (input input' : Input) (index : ℕ) : Type 0 where
+pub record IsNoFile (asked : TimedRequest) (input input' : Input) (index : ℕ) : Type 0 where
   pub load : asked.request ≡ Load
   pub first : index ≡ 1
   pub payload : List ℕ
@@ -80,7 +80,7 @@ pub record IsNoFile (asked : Spoken) (input input' : Input) (index : ℕ) : Type
   pub none : file_requests payload ≡ None
 
 -- what a request on an open vault may be answered
-abbrev pub IsOfRequest : Spoken → Input → Input → Answer → Type 0
+abbrev pub IsOfRequest : TimedRequest → Input → Input → Answer → Type 0
 IsOfRequest asked input input' (BadRequest index) = IsNoFile asked input input' index
 IsOfRequest asked input input' (NotAVault offset) = ⊥
 IsOfRequest asked input input' SendFault = ⊥
@@ -100,7 +100,7 @@ Ends s (carried e) c = EndsBy s e e.mark c
 pub record Replied (s : State) (o : Outcome) (base : List ℕ) (c : Image) (b : List ℕ) : Type 0 where
   pub ends : Ends s o c
   pub rest : List ℕ
-  pub sent : b ++ rest ≡ base ++ text_of (said s o)
+  pub sent : b ++ rest ≡ base ++ text_of (answer_given s o)
 
 abbrev pub Covered : State → Outcome → List ℕ → Image → List ℕ → Type 0
 Covered s o base c b = ((stands c ≡ Some (durable s)) × (b ≡ base)) ⊎ Replied s o base c b
@@ -109,15 +109,15 @@ Covered s o base c b = ((stands c ≡ Some (durable s)) × (b ≡ base)) ⊎ Rep
 pub record Answers (s : State) (words : List (List ℕ)) (disk disk' : Disk) (input input' : Input) (ticks ticks' : Ticks) (a : Answer) : Type 0 where
   pub outcome : Outcome
   pub asked : IsAsked words disk.seen input input' ticks ticks' outcome
-  pub is : a ≡ said s outcome
+  pub is : a ≡ answer_given s outcome
   pub now : (c : Image) → disk'.may_leave c → Ends s outcome c
   pub during : During disk disk' (λ c b. ((stands c ≡ Some (durable s)) ⊎ Ends s outcome c) × (b ≡ disk.sent))
 
 -- What a request does to a desk that has this state.
-pub record Obeys (s : State) (asked : Spoken) (disk disk' : Disk) (input input' : Input) (ticks ticks' : Ticks) (a : Answer) : Type 0 where
+pub record Executes (s : State) (asked : TimedRequest) (disk disk' : Disk) (input input' : Input) (ticks ticks' : Ticks) (a : Answer) : Type 0 where
   pub outcome : Outcome
-  pub obeyed : IsObeyed asked input input' ticks ticks' outcome
-  pub is : a ≡ said s outcome
+  pub executed : IsExecuted asked input input' ticks ticks' outcome
+  pub is : a ≡ answer_given s outcome
   pub now : (c : Image) → disk'.may_leave c → Ends s outcome c
   pub during : During disk disk' (λ c b. ((stands c ≡ Some (durable s)) ⊎ Ends s outcome c) × (b ≡ disk.sent))
 
@@ -140,8 +140,8 @@ pub record Replies (a : Answer) (old new : Disk) (status : ℕ) : Type 0 where
 pub record Ran (s : State) (words : List (List ℕ)) (disk disk' : Disk) (input input' : Input) (ticks ticks' : Ticks) (status : ℕ) : Type 0 where
   pub outcome : Outcome
   pub asked : IsAsked words disk.seen input input' ticks ticks' outcome
-  pub status_is : (status ≡ number_of (said s outcome)) ⊎ (status ≡ 20)
-  pub sent : status ≢ 20 → disk'.sent ≡ disk.sent ++ text_of (said s outcome)
-  pub part : (rest : List ℕ) × (disk'.sent ++ rest ≡ disk.sent ++ text_of (said s outcome))
+  pub status_is : (status ≡ number_of (answer_given s outcome)) ⊎ (status ≡ 20)
+  pub sent : status ≢ 20 → disk'.sent ≡ disk.sent ++ text_of (answer_given s outcome)
+  pub part : (rest : List ℕ) × (disk'.sent ++ rest ≡ disk.sent ++ text_of (answer_given s outcome))
   pub now : (c : Image) → disk'.may_leave c → Ends s outcome c
   pub stops : (c : Image) (b : List ℕ) → disk'.left_since disk.moment c b → Covered s outcome disk.sent c b

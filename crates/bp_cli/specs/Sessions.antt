@@ -15,11 +15,11 @@ use Rattle.session_text.specs.Turns.{Turn, request, broken, whole_turn, turns}
 use Rattle.desk_model.specs.State.{State, durable}
 use Rattle.desk_model.specs.Replay.{Entry, after}
 use Rattle.site_desk.specs.Stands.{opened, stands, Standing}
-use Rattle.bp_cli.specs.Words.{is_moment, spoken}
-use Rattle.bp_cli.specs.Runs.{Outcome, refused, carried, said, Ends, Delivers}
+use Rattle.bp_cli.specs.Words.{is_moment, timed_request}
+use Rattle.bp_cli.specs.Runs.{Outcome, refused, carried, answer_given, Ends, Delivers}
 use Rattle.bp_cli.specs.declared.turn.Turned.{Turned}
 use Rattle.bp_cli.specs.declared.turn.Turned.TheVariants.{On, Over}
-use Rattle.bp_cli.specs.declared.words.Spoken.{Spoken}
+use Rattle.bp_cli.specs.declared.words.TimedRequest.{TimedRequest}
 
 -- a reply with its frame: the answer's number, a space, the length of its text, a line feed, and the text
 abbrev pub frame : ℕ → List ℕ → List ℕ
@@ -40,7 +40,7 @@ state_after s (o ∷ os) = state_after (after_outcome s o) os
 -- their replies, one behind the other
 abbrev pub replies : State → List Outcome → List ℕ
 replies s [] = []
-replies s (o ∷ os) = framed (said s o) ++ replies (after_outcome s o) os
+replies s (o ∷ os) = framed (answer_given s o) ++ replies (after_outcome s o) os
 
 -- the image stands for the state after them; only the last may have met a fault
 abbrev pub EndsAfter : State → List Outcome → Image → Type 0
@@ -62,12 +62,12 @@ abbrev pub is_none_given : List ℕ → Bool
 is_none_given [] = true
 is_none_given (b ∷ bs) = false
 
-abbrev pub with_payload : Result Spoken ℕ → List ℕ → ℕ → Result Spoken ℕ
+abbrev pub with_payload : Result TimedRequest ℕ → List ℕ → ℕ → Result TimedRequest ℕ
 with_payload (Ok asked) payload count = if takes_payload asked.request || is_none_given payload then Ok asked else Err count
 with_payload (Err index) payload count = Err index
 
-abbrev pub turn_spoken : List (List ℕ) → List ℕ → Result Spoken ℕ
-turn_spoken words payload = with_payload (spoken words) payload (length words)
+abbrev pub turn_request : List (List ℕ) → List ℕ → Result TimedRequest ℕ
+turn_request words payload = with_payload (timed_request words) payload (length words)
 
 -- the moment is the one that the words name, where they name one
 abbrev pub IsNamed : Option ℕ → ℕ → Type 0
@@ -76,22 +76,22 @@ IsNamed None moment = Unit {0}
 
 -- a request was carried out as its words ask
 pub record IsCarriedOut (words : List (List ℕ)) (payload : List ℕ) (e : Entry) : Type 0 where
-  pub asked : Spoken
-  pub words_ask : turn_spoken words payload ≡ Ok asked
+  pub asked : TimedRequest
+  pub words_ask : turn_request words payload ≡ Ok asked
   pub request_is : e.request ≡ asked.request
   pub payload_is : e.payload ≡ payload
   pub moment_is : IsNamed asked.moment e.moment
 
 -- its words are good, and name no moment
 pub record WantsMoment (words : List (List ℕ)) (payload : List ℕ) : Type 0 where
-  pub asked : Spoken
-  pub words_ask : turn_spoken words payload ≡ Ok asked
+  pub asked : TimedRequest
+  pub words_ask : turn_request words payload ≡ Ok asked
   pub unnamed : asked.moment ≡ None
 
 -- how a request is answered
 abbrev pub IsAnswerTo : List (List ℕ) → List ℕ → Outcome → Type 0
 IsAnswerTo words payload (refused OutOfMemory) = Unit {0}
-IsAnswerTo words payload (refused (BadRequest index)) = turn_spoken words payload ≡ Err index
+IsAnswerTo words payload (refused (BadRequest index)) = turn_request words payload ≡ Err index
 IsAnswerTo words payload (refused ClockFault) = WantsMoment words payload
 IsAnswerTo words payload (refused _) = ⊥
 IsAnswerTo words payload (carried e) = IsCarriedOut words payload e
@@ -143,7 +143,7 @@ pub record IsOfText (text left : List ℕ) (ts : List Turn) (closing : List Outc
 -- the number of the last answer
 abbrev pub last_number : State → List Outcome → ℕ
 last_number s [] = 0
-last_number s (o ∷ []) = number_of (said s o)
+last_number s (o ∷ []) = number_of (answer_given s o)
 last_number s (o ∷ p ∷ os) = last_number (after_outcome s o) (p ∷ os)
 
 -- a fault of the disk, the source or the clock ends a session
@@ -157,12 +157,12 @@ IsOverBy status = (is_over status ≡ true) ⊎ (status ≡ 1)
 -- a session goes on behind each of these, and behind each but the last of these
 abbrev pub AllGoOn : State → List Outcome → Type 0
 AllGoOn s [] = Unit {0}
-AllGoOn s (o ∷ os) = (is_over (number_of (said s o)) ≡ false) × AllGoOn (after_outcome s o) os
+AllGoOn s (o ∷ os) = (is_over (number_of (answer_given s o)) ≡ false) × AllGoOn (after_outcome s o) os
 
 abbrev pub GoesOn : State → List Outcome → Type 0
 GoesOn s [] = Unit {0}
 GoesOn s (o ∷ []) = Unit {0}
-GoesOn s (o ∷ p ∷ os) = (is_over (number_of (said s o)) ≡ false) × GoesOn (after_outcome s o) (p ∷ os)
+GoesOn s (o ∷ p ∷ os) = (is_over (number_of (answer_given s o)) ≡ false) × GoesOn (after_outcome s o) (p ∷ os)
 
 -- the last of these turns is a fault in the framing
 abbrev pub EndsBroken : List Turn → Type 0
@@ -207,7 +207,7 @@ pub record Takes (s : State) (words : List (List ℕ)) (payload : List ℕ) (dis
   pub outcome : Outcome
   pub answer_to : IsAnswerTo words payload outcome
   pub moment : ticks.tells → ticks'.gave ≡ ticks.gave ++ moment_taken words outcome
-  pub is : a ≡ said s outcome
+  pub is : a ≡ answer_given s outcome
   pub now : (c : Image) → disk'.may_leave c → Ends s outcome c
   pub during : During disk disk' (λ c b. ((stands c ≡ Some (durable s)) ⊎ Ends s outcome c) × (b ≡ disk.sent))
   pub moves : a ≢ DiskFault → (state ≡ after_outcome s outcome) × Standing disk' state
@@ -231,19 +231,19 @@ pub record RepliesFramed (a : Answer) (old new : Disk) {E : Type 0} (result : Re
 
 -- a request of a session was answered and its reply sent, or a first part of that; the session goes on, or it is over
 abbrev pub IsTurned : State → Outcome → Disk → Disk → State → Turned → Type 0
-IsTurned s o disk disk' state On = (disk'.sent ≡ disk.sent ++ framed (said s o)) × (state ≡ after_outcome s o) × Standing disk' state × (is_over (number_of (said s o)) ≡ false)
-IsTurned s o disk disk' state (Over status) = (status ≡ 20) ⊎ ((status ≡ number_of (said s o)) × (disk'.sent ≡ disk.sent ++ framed (said s o)) × IsOverBy status)
+IsTurned s o disk disk' state On = (disk'.sent ≡ disk.sent ++ framed (answer_given s o)) × (state ≡ after_outcome s o) × Standing disk' state × (is_over (number_of (answer_given s o)) ≡ false)
+IsTurned s o disk disk' state (Over status) = (status ≡ 20) ⊎ ((status ≡ number_of (answer_given s o)) × (disk'.sent ≡ disk.sent ++ framed (answer_given s o)) × IsOverBy status)
 
 -- before a request the disk stands for the state before it and nothing of its reply is sent; afterwards for the one in which it ends, and at most its reply is
 abbrev pub CoversOne : State → Outcome → List ℕ → Image → List ℕ → Type 0
-CoversOne s o base c b = ((stands c ≡ Some (durable s)) × (b ≡ base)) ⊎ (Ends s o c × ((rest : List ℕ) × (b ++ rest ≡ base ++ framed (said s o))))
+CoversOne s o base c b = ((stands c ≡ Some (durable s)) × (b ≡ base)) ⊎ (Ends s o c × ((rest : List ℕ) × (b ++ rest ≡ base ++ framed (answer_given s o))))
 
 pub record Turns (s : State) (words : List (List ℕ)) (payload : List ℕ) (disk disk' : Disk) (ticks ticks' : Ticks) (state : State) (t : Turned) : Type 0 where
   pub outcome : Outcome
   pub answer_to : IsAnswerTo words payload outcome
   pub moment : ticks.tells → ticks'.gave ≡ ticks.gave ++ moment_taken words outcome
   pub now : (c : Image) → disk'.may_leave c → Ends s outcome c
-  pub part : (rest : List ℕ) × (disk'.sent ++ rest ≡ disk.sent ++ framed (said s outcome))
+  pub part : (rest : List ℕ) × (disk'.sent ++ rest ≡ disk.sent ++ framed (answer_given s outcome))
   pub during : During disk disk' (CoversOne s outcome disk.sent)
   pub turned : IsTurned s outcome disk disk' state t
 
@@ -251,22 +251,22 @@ abbrev pub IsWholeReply : Answer → Disk → Disk → Turned → Type 0
 IsWholeReply sent old new On = (new.sent ≡ old.sent ++ framed sent) × (is_over (number_of sent) ≡ false)
 IsWholeReply sent old new (Over status) = (status ≡ 20) ⊎ ((status ≡ number_of sent) × (new.sent ≡ old.sent ++ framed sent) × IsOverBy status)
 
--- an answer was sent with its frame, or want of memory in its place, and whether the session goes on behind it; status 20 where the send failed
-pub record RepliesOn (a : Answer) (old new : Disk) (t : Turned) : Type 0 where
+-- an answer was sent with its frame, or want of memory in its place, and this is so of what was sent
+pub record RepliesWith (a : Answer) (old new : Disk) (Whole : Answer → Type 0) : Type 0 where
   pub sent : Answer
   pub is : (sent ≡ a) ⊎ ((sent ≡ OutOfMemory) × NeedsMemory a)
   pub rests : Rests old new
   pub during : During old new (λ c b. old.may_leave c × SentPart old.sent (framed sent) b)
   pub part : SentPart old.sent (framed sent) new.sent
-  pub whole : IsWholeReply sent old new t
+  pub whole : Whole sent
 
-pub record RepliesLast (a : Answer) (old new : Disk) (status : ℕ) : Type 0 where
-  pub sent : Answer
-  pub is : (sent ≡ a) ⊎ ((sent ≡ OutOfMemory) × NeedsMemory a)
-  pub rests : Rests old new
-  pub during : During old new (λ c b. old.may_leave c × SentPart old.sent (framed sent) b)
-  pub part : SentPart old.sent (framed sent) new.sent
-  pub whole : (status ≡ 20) ⊎ ((status ≡ number_of sent) × (new.sent ≡ old.sent ++ framed sent))
+-- whether the session goes on behind it; status 20 where the send failed
+abbrev pub RepliesOn : Answer → Disk → Disk → Turned → Type 0
+RepliesOn a old new t = RepliesWith a old new (λ sent. IsWholeReply sent old new t)
+
+-- it is the last of the session, which has this status
+abbrev pub RepliesLast : Answer → Disk → Disk → ℕ → Type 0
+RepliesLast a old new status = RepliesWith a old new (λ sent. (status ≡ 20) ⊎ ((status ≡ number_of sent) × (new.sent ≡ old.sent ++ framed sent)))
 
 -- the status of a session behind its last request
 abbrev pub last_status : Turned → ℕ

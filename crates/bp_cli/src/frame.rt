@@ -1,4 +1,4 @@
-// Replies with their frames.
+// The replies of a session: each text with its frame, the number of the answer and the length of the text.
 ghost use Rattle.std.specs.Prelude.{◌≡◌, ◌⊎◌, ◌≤◌, ◌+◌, [], ◌∷◌, ◌++◌, length, IfOk, vec_capacity, vec_len};
 ghost use Rattle.std.specs.Fmt.{decimal};
 ghost use Rattle.site_types.specs.Answers.{number_of, text_of, NeedsMemory};

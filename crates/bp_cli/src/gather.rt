@@ -1,4 +1,4 @@
-// What a request is given.
+// What a single request is given: its payload from the source, and its moment.
 ghost use Rattle.std.specs.Prelude.{◌≡◌, ◌≤◌, ◌++◌, codes, length, None, IfOk, IfErr, OnErr};
 ghost use Rattle.vault_disk.specs.Steps.{Rose};
 ghost use Rattle.vault_disk.specs.Input.{IsSameInput};
@@ -11,9 +11,9 @@ use site_types::{Answer, NoMemory, PAYLOAD_LIMIT, Text};
 use std::alloc::Global;
 use vault_disk::{Clock, Failed, Source};
 
-/// A payload, and a moment in seconds since 1970-01-01T00:00:00Z.
+/// What a single request was given: its payload, and its moment in seconds since 1970-01-01T00:00:00Z.
 #[derive(Drop)]
-pub struct Gathered {
+pub struct Inputs {
     pub payload: Text,
     pub moment: u64,
 }
@@ -62,7 +62,7 @@ pub fn gather<S: Source, C: Clock>(
     named: Option<u64>,
     source: &mut S,
     clock: &mut C,
-) -> Result<Gathered, Answer>
+) -> Result<Inputs, Answer>
     requires limited { IsLimited named }
     ensures gathered { IfOk result (λ g. Gathers takes named (S.input source.old) (S.input source.new) (C.ticks clock.old) (C.ticks clock.new) g) }
     ensures refused { IfErr result (λ a. IsUngathered takes a (S.input source.old)) }
@@ -78,5 +78,5 @@ pub fn gather<S: Source, C: Clock>(
     let Ok(moment) = moment_at(named, clock) else {
         return Err(Answer::ClockFault);
     };
-    Ok(Gathered { payload, moment })
+    Ok(Inputs { payload, moment })
 }

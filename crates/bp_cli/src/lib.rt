@@ -1,9 +1,9 @@
 //! The runs of the program: words and a source in, a reply and a status out.
 #![tactic(auto)]
 
+mod execute;
 mod frame;
 mod gather;
-mod obey;
 mod payload;
 mod serve;
 mod session;
@@ -11,12 +11,3 @@ mod turn;
 mod words;
 
 pub use session::run;
-
-#[cfg(test)]
-mod session_tests;
-#[cfg(test)]
-mod site_tests;
-#[cfg(test)]
-mod tests;
-#[cfg(test)]
-mod word_tests;

@@ -1,3 +1,4 @@
+// A run: a single request or a session, by its words.
 ghost use Rattle.std.specs.Prelude.{◌≡◌, ◌≢◌, ◌⊎◌, true, false, codes, IfOk, MatchResult};
 ghost use Rattle.std.specs.Str.{bytes_eq};
 ghost use Rattle.site_types.specs.Answers.{number_of};
@@ -6,12 +7,12 @@ ghost use Rattle.vault_disk.specs.Steps.{IsSameBut, Rose};
 ghost use Rattle.desk_model.specs.State.{State, durable};
 ghost use Rattle.site_desk.specs.Stands.{opened, Standing};
 ghost use Rattle.bp_cli.specs.Causes.{Caused, SessionCaused};
-ghost use Rattle.bp_cli.specs.Words.{is_session, names_session, spoken};
+ghost use Rattle.bp_cli.specs.Words.{is_session, names_session, timed_request};
 ghost use Rattle.bp_cli.specs.Runs.{refusal_of, Ran, Replies, Delivers};
 ghost use Rattle.bp_cli.specs.Sessions.{framed, RanSession, RepliesUnopened, Serves};
 
+use crate::execute::answered;
 use crate::frame::{made_text, new_head, write_head};
-use crate::obey::answered;
 use crate::serve::serve;
 use crate::turn::SEND_FAULT;
 use pool_journal::JournalFault;
@@ -60,7 +61,7 @@ fn run_single<M: Machine, S: Source, C: Clock>(
 ) -> u8
     ensures ran { (s : State) → (M.disk machine.old).tells → Standing (M.disk machine.old) s → Ran (durable s) words.now (M.disk machine.old) (M.disk machine.new) (S.input source.old) (S.input source.new) (C.ticks clock.old) (C.ticks clock.new) result }
     ensures caused { Caused words.now (M.disk machine.old).tells (M.disk machine.old).seen (S.input source.old) (S.input source.new) (C.ticks clock.old) (C.ticks clock.new) result }
-    ensures bad_words { MatchResult (spoken words.now) (λ said. said.request ≢ Request.Load → result ≢ 2) (λ _. (result ≡ 2) ⊎ ((result ≡ 1) ⊎ (result ≡ 20))) }
+    ensures bad_words { MatchResult (timed_request words.now) (λ said. said.request ≢ Request.Load → result ≢ 2) (λ _. (result ≡ 2) ⊎ ((result ≡ 1) ⊎ (result ≡ 20))) }
     ensures disk_fault { result ≡ 18 → Rose (M.disk machine.old).faults (M.disk machine.new).faults }
     ensures read_fault { result ≡ 19 → Rose (S.input source.old).faults (S.input source.new).faults }
     ensures send_fault { result ≡ 20 → Rose (M.disk machine.old).send_faults (M.disk machine.new).send_faults }
@@ -177,7 +178,7 @@ pub fn run<M: Machine, S: Source, C: Clock>(
     ensures bad_session { names_session words.now ≡ true → is_session words.now ≡ false → (M.disk machine.old).tells → Replies (Answer.BadRequest 1) (M.disk machine.old) (M.disk machine.new) result }
     ensures caused { names_session words.now ≡ false → Caused words.now (M.disk machine.old).tells (M.disk machine.old).seen (S.input source.old) (S.input source.new) (C.ticks clock.old) (C.ticks clock.new) result }
     ensures session_caused { is_session words.now ≡ true → SessionCaused (M.disk machine.old) (M.disk machine.new) (S.input source.old) (S.input source.new) result }
-    ensures bad_words { names_session words.now ≡ false → MatchResult (spoken words.now) (λ said. said.request ≢ Request.Load → result ≢ 2) (λ _. (result ≡ 2) ⊎ ((result ≡ 1) ⊎ (result ≡ 20))) }
+    ensures bad_words { names_session words.now ≡ false → MatchResult (timed_request words.now) (λ said. said.request ≢ Request.Load → result ≢ 2) (λ _. (result ≡ 2) ⊎ ((result ≡ 1) ⊎ (result ≡ 20))) }
     ensures disk_fault { result ≡ 18 → Rose (M.disk machine.old).faults (M.disk machine.new).faults }
     ensures read_fault { result ≡ 19 → Rose (S.input source.old).faults (S.input source.new).faults }
     ensures send_fault { result ≡ 20 → Rose (M.disk machine.old).send_faults (M.disk machine.new).send_faults }

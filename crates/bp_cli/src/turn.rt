@@ -1,4 +1,4 @@
-// A request of a session.
+// One turn of a session: a request is carried out, and its reply is sent.
 ghost use Rattle.std.specs.Prelude.{◌≡◌, ◌⊎◌, ◌≤◌, ◌≢◌, ℕ, false, length, IfOk, vec_capacity};
 ghost use Rattle.site_types.specs.Limits.{payload_limit};
 ghost use Rattle.site_types.specs.Lines.{IsFormed};
@@ -8,12 +8,12 @@ ghost use Rattle.vault_disk.specs.Steps.{IsSameBut, Rose};
 ghost use Rattle.vault_disk.specs.Ticks.{IsSameClock};
 ghost use Rattle.site_desk.specs.Stands.{Standing};
 ghost use Rattle.bp_cli.specs.Gather.{IsLimited};
-ghost use Rattle.bp_cli.specs.Words.{IsSpoken};
-ghost use Rattle.bp_cli.specs.Sessions.{answer_in, is_none_given, is_over, turn_spoken, unheard, IsOverBy, RepliesLast, RepliesOn, Takes, Turns};
+ghost use Rattle.bp_cli.specs.Words.{IsTimedReading};
+ghost use Rattle.bp_cli.specs.Sessions.{answer_in, is_none_given, is_over, turn_request, unheard, IsOverBy, RepliesLast, RepliesOn, Takes, Turns};
 
 use crate::frame::reply_framed;
 use crate::gather::moment_at;
-use crate::words::{Spoken, read_spoken};
+use crate::words::{TimedRequest, read_timed_request};
 use session_text::Asked;
 use site_desk::Desk;
 use site_types::{Answer, WordFault};
@@ -27,15 +27,15 @@ fn is_none_given(payload: &[u8]) -> bool
 }
 
 // What a request of a session asks for. A payload for a form that takes none is a bad word, the last one.
-fn read_turn(alloc: Global, asked: &Asked) -> Result<Spoken, WordFault>
-    ensures spoken { IsSpoken result (turn_spoken asked.now.words asked.now.payload) }
+fn read_turn(alloc: Global, asked: &Asked) -> Result<TimedRequest, WordFault>
+    ensures read { IsTimedReading result (turn_request asked.now.words asked.now.payload) }
     ensures limit { IfOk result (λ s. IsLimited s.moment) }
     ensures formed { IfOk result (λ s. IsFormed s.request) }
 {
     let words = asked.words.as_slice();
-    let spoken = read_spoken(alloc, words)?;
-    if spoken.request.takes_payload() || is_none_given(asked.payload.bytes()) {
-        return Ok(spoken);
+    let timed = read_timed_request(alloc, words)?;
+    if timed.request.takes_payload() || is_none_given(asked.payload.bytes()) {
+        return Ok(timed);
     }
     Err(WordFault::Bad {
         index: words.len() as u64,
@@ -69,12 +69,12 @@ pub fn answer_request<V: Vault, C: Clock>(
     ensures not_read { answer_in result ≢ Answer.ReadFault }
     ensures sendable { answer_in result ≢ Answer.SendFault }
 {
-    let spoken = match read_turn(alloc, asked) {
-        Ok(spoken) => spoken,
+    let timed = match read_turn(alloc, asked) {
+        Ok(timed) => timed,
         Err(fault) => return unheard(fault),
     };
-    match moment_at(spoken.moment, clock) {
-        Ok(moment) => Some(desk.step(alloc, &spoken.request, asked.payload.bytes(), moment)),
+    match moment_at(timed.moment, clock) {
+        Ok(moment) => Some(desk.step(alloc, &timed.request, asked.payload.bytes(), moment)),
         Err(_) => Some(Answer::ClockFault),
     }
 }

@@ -3,14 +3,14 @@ ghost use Rattle.std.specs.Prelude.{◌≡◌, true, Some, None, IfOk};
 ghost use Rattle.site_types.specs.Requests.{IsReading, read_words};
 ghost use Rattle.site_types.specs.Lines.{IsFormed};
 ghost use Rattle.bp_cli.specs.Gather.{IsLimited};
-ghost use Rattle.bp_cli.specs.Words.{is_moment, moment_of, at_moment, without_moment, spoken, IsSpoken};
+ghost use Rattle.bp_cli.specs.Words.{is_moment, moment_of, at_moment, without_moment, timed_request, IsTimedReading};
 
 use site_types::{LAST_MOMENT, Request, Text, WordFault, read_number};
 use std::alloc::Global;
 
-/// A request, and the moment where the words name one, in seconds since 1970-01-01T00:00:00Z.
+/// A request with the moment that its words name, if they name one, in seconds since 1970-01-01T00:00:00Z.
 #[derive(Debug, Drop)]
-pub struct Spoken {
+pub struct TimedRequest {
     pub moment: Option<u64>,
     pub request: Request,
 }
@@ -29,13 +29,13 @@ fn moment_of(word: &[u8]) -> Option<u64>
     read_number(&word[1..], LAST_MOMENT)
 }
 
-fn read_at(alloc: Global, moment: u64, words: &[Text]) -> Result<Spoken, WordFault>
+fn read_at(alloc: Global, moment: u64, words: &[Text]) -> Result<TimedRequest, WordFault>
     ensures moment { IfOk result (λ s. s.moment ≡ Some moment) }
     ensures formed { IfOk result (λ s. IsFormed s.request) }
-    ensures spoken { IsSpoken result (at_moment (Some moment) (read_words words.now)) }
+    ensures read { IsTimedReading result (at_moment (Some moment) (read_words words.now)) }
 {
     match Request::read(alloc, words) {
-        Ok(request) => Ok(Spoken {
+        Ok(request) => Ok(TimedRequest {
             moment: Some(moment),
             request,
         }),
@@ -44,13 +44,13 @@ fn read_at(alloc: Global, moment: u64, words: &[Text]) -> Result<Spoken, WordFau
     }
 }
 
-fn read_now(alloc: Global, words: &[Text]) -> Result<Spoken, WordFault>
+fn read_now(alloc: Global, words: &[Text]) -> Result<TimedRequest, WordFault>
     ensures moment { IfOk result (λ s. s.moment ≡ None) }
     ensures formed { IfOk result (λ s. IsFormed s.request) }
-    ensures spoken { IsSpoken result (without_moment (read_words words.now)) }
+    ensures read { IsTimedReading result (without_moment (read_words words.now)) }
 {
     match Request::read(alloc, words) {
-        Ok(request) => Ok(Spoken {
+        Ok(request) => Ok(TimedRequest {
             moment: None,
             request,
         }),
@@ -59,8 +59,8 @@ fn read_now(alloc: Global, words: &[Text]) -> Result<Spoken, WordFault>
 }
 
 /// What the words ask for.
-pub fn read_spoken(alloc: Global, words: &[Text]) -> Result<Spoken, WordFault>
-    ensures spoken { IsSpoken result (spoken words.now) }
+pub fn read_timed_request(alloc: Global, words: &[Text]) -> Result<TimedRequest, WordFault>
+    ensures read { IsTimedReading result (timed_request words.now) }
     ensures limit { IfOk result (λ s. IsLimited s.moment) }
     ensures formed { IfOk result (λ s. IsFormed s.request) }
 {

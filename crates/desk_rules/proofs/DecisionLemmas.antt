@@ -21,9 +21,9 @@ use Rattle.desk_model.specs.Backups.{Asked, asked_of, backup_refusals, client_re
 use Rattle.desk_model.specs.Settings.{is_of_client, is_under, setting_refusals, use_refusals, used_by}
 use Rattle.desk_model.specs.Step.{restore_refusals}
 use Rattle.desk_rules.specs.declared.decision.Change.{Change}
-use Rattle.desk_rules.specs.declared.decision.Change.TheVariants.{Load, Nothing, SealNow, Settings}
+use Rattle.desk_rules.specs.declared.decision.Change.TheVariants.{Load, Nothing, SealNow}
 use Rattle.desk_rules.specs.declared.decision.Decision.{Decision}
-use Rattle.desk_rules.specs.Decisions.{Decides, DecidesAs, IsChange, IsDecision, IsStateOf, backup_body}
+use Rattle.desk_rules.specs.Decisions.{Decides, DecidesAs, IsChange, IsDecision, IsStateOf, SetsSite, backup_body}
 use Rattle.desk_rules.specs.Refusing.{settled}
 use Rattle.desk_rules.specs.Seen.{backup_answer, blank, room_under, seen}
 use Rattle.desk_rules.proofs.RefusalLemmas.{answered}
@@ -111,13 +111,14 @@ settings_seen request site records s is = λ j. answered (refusals_of request (i
 
 pub setting_decided : (site : Site) (records : List ImageRecord) (request change : Request) (payload moment : ℕ) (result : Result Decision AllocError)
     → site_change change ≡ class_of request
-    → IfOk result (λ d. d ≡ settled (first_refusal (setting_refusals change (seen site records))) (Done []) Settings)
+    → IfOk result (DecidesAs (first_refusal (setting_refusals change (seen site records))) (Done []) (SetsSite site change))
     → (s : State) (bytes : List ℕ) → IsStateOf site records s → length bytes ≡ payload → IfOk result (IsDecision s request bytes moment)
 setting_decided site records request change payload moment (Err e) is settles s bytes state size = tt
 setting_decided site records request change payload moment (Ok d) is settles s bytes state size =
+    let refusals : setting_refusals change (seen site records) ≡ setting_refusals change s = sym (settings_seen change site records s state) in
+    let here : DecidesAs (first_refusal (setting_refusals change (seen site records))) (Done []) (SetsSite s.site change) d = subst (λ (x : Site). DecidesAs (first_refusal (setting_refusals change (seen site records))) (Done []) (SetsSite x change) d) (sym state.site_is) settles in
     subst (λ (class : RequestClass). Decides s class bytes moment d) is
-    (settled_as (first_refusal (setting_refusals change s)) (Done []) Settings (IsChange s (site_change change) bytes moment) d
-    (settles ∙ ap (λ (rs : List (Bool × Answer)). settled (first_refusal rs) (Done []) Settings) (sym (settings_seen change site records s state))) refl)
+    (subst (λ (rs : List (Bool × Answer)). DecidesAs (first_refusal rs) (Done []) (SetsSite s.site change) d) refusals here)
 
 -- Site files.
 

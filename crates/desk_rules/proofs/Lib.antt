@@ -5,3 +5,5 @@ pub mod DueLemmas
 pub mod RefusalLemmas
 pub mod SeenLemmas
 pub mod DecisionLemmas
+pub mod SiteChangeLemmas
+pub mod ZoneLemmas

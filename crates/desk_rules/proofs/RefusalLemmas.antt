@@ -5,8 +5,7 @@ use Rattle.std.specs.declared.alloc.AllocError.{AllocError}
 use Rattle.site_types.specs.declared.answer.Answer.{Answer}
 use Rattle.policy_book.specs.declared.fault.BookFault.{BookFault}
 use Rattle.policy_book.specs.declared.fault.BookFault.TheVariants as fault
-use Rattle.policy_book.specs.Changes.{first_refusal as book_refusal}
-use Rattle.policy_book.specs.Refusals.{Allows}
+use Rattle.policy_book.specs.Refusals.{Allows, first_refusal as book_refusal}
 use Rattle.desk_model.specs.Refusals.{first_refusal}
 use Rattle.desk_model.specs.Settings.{refusal_answer}
 use Rattle.desk_rules.specs.declared.refusal.Refusal.{Refusal}
@@ -81,7 +80,7 @@ refused_by (fault.Rule rule) = inr refl
 refused_by fault.NoMemory = inl refl
 
 -- a fault of the book is handed on
-pub book_refuses : {A : Type 0} (refusals : List (Bool × BookFault)) (f : BookFault) (result : Result A Refusal) → Allows {A = A} refusals (Err f) → IsErrAnd result (λ r. r ≡ refusal_by f) → Passes (answered refusals) result
+pub book_refuses : {A B : Type 0} (refusals : List (Bool × BookFault)) (f : BookFault) (result : Result A Refusal) → Allows {A = B} refusals (Err f) → IsErrAnd result (λ r. r ≡ refusal_by f) → Passes (answered refusals) result
 book_refuses refusals f (Ok x) allows is = absurd is
 book_refuses refusals f (Err r) allows is = record {
   passed = tt;
@@ -93,3 +92,7 @@ book_refuses refusals f (Err r) allows is = record {
     ]
   ];
 }
+
+-- and so is that it has none
+pub book_allows : {A B : Type 0} (refusals : List (Bool × BookFault)) (x : A) (y : B) → Allows {A = B} refusals (Ok y) → Passes (answered refusals) (Ok x)
+book_allows refusals x y allows = record { passed = first_answered refusals ∙ ap (option_map refusal_answer) allows.allowed; refused = tt }

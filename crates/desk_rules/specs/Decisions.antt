@@ -17,6 +17,7 @@ use Rattle.desk_rules.specs.declared.decision.JobBody.TheVariants.{Backup}
 use Rattle.desk_rules.specs.declared.decision.Change.{Change}
 use Rattle.desk_rules.specs.declared.decision.Change.TheVariants.{Nothing, Settings, Load, SealNow}
 use Rattle.desk_rules.specs.declared.decision.Decision.{Decision}
+use Rattle.desk_rules.specs.SiteChanges.{IsSiteChange}
 
 -- the state has this site and these images, each with as many bytes as the catalogue says, and no open jobs
 pub record IsStateOf (site : Site) (images : List ImageRecord) (s : State) : Type 0 where
@@ -44,9 +45,15 @@ backup_body asked moment s =
     let schedule = unwrap_or (schedule_asked asked s) manual in
     Backup (record { client = asked.client; time = new_time asked.client moment s }) policy.name schedule.name schedule.kind base.None policy.lifecycle (latest_version policy.lifecycle s.site.book) asked.size
 
+abbrev pub SetsSite : Site → Request → Change → Type 0
+SetsSite site request Nothing = ⊥
+SetsSite site request (Settings change) = IsSiteChange site request change
+SetsSite site request Load = ⊥
+SetsSite site request (SealNow body) = ⊥
+
 -- what a request of this class changes where nothing refuses it
 abbrev pub IsChange : State → RequestClass → List ℕ → ℕ → Change → Type 0
-IsChange s (site_change request) payload moment change = change ≡ Settings
+IsChange s (site_change request) payload moment change = SetsSite s.site request change
 IsChange s site_file payload moment change = change ≡ Load
 IsChange s (backup client policy schedule start) payload moment change = change ≡ SealNow (backup_body (asked_of client policy schedule start (length payload)) moment s)
 IsChange s (restore id copy) payload moment change = change ≡ Nothing

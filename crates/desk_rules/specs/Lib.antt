@@ -4,3 +4,5 @@ pub mod Decisions
 pub mod Refusing
 pub mod Seen
 pub mod Asking
+pub mod SiteChanges
+pub mod Zoned

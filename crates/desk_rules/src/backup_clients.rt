@@ -14,13 +14,11 @@ use crate::asked::BackupAsked;
 use crate::refusal::Refusal;
 use desk_model::Site;
 use image_catalogue::Catalogue;
-use policy_book::{Book, Policy};
+use policy_book::{Book, CLIENT_LIMIT, Policy, pair_text};
 use site_types::{Answer, Name, Text};
 use std::alloc::Global;
 
 const IMAGE_LIMIT: u64 = 1_048_576;
-
-const CLIENT_LIMIT: u64 = 1024;
 
 // The policy, under which the client may be backed up.
 pub(crate) fn check_client<'a>(
@@ -93,12 +91,12 @@ fn check_known(alloc: Global, book: &Book, asked: &BackupAsked<'_>) -> Result<()
 fn check_clients(alloc: Global, book: &Book, asked: &BackupAsked<'_>) -> Result<(), Refusal>
     ensures { Passes ((takes_all asked.now.policy && not (is_known asked.now.client.now book.now) && nat_le client_limit (length book.now.clients), answer.TooMany (codes "clients") (length book.now.clients) client_limit) ∷ []) result }
 {
-    let count = book.clients().len() as u64;
+    let count = book.clients().len();
     if takes_all(&asked.policy) && !is_known(asked.client, book) && count >= CLIENT_LIMIT {
         return Err(Refusal::Answered(Answer::TooMany {
             kind: Text::new(alloc, b"clients")?,
-            count,
-            limit: CLIENT_LIMIT,
+            count: count as u64,
+            limit: CLIENT_LIMIT as u64,
         }));
     }
     Ok(())
@@ -113,14 +111,4 @@ fn check_listed(alloc: Global, policy: &Policy, asked: &BackupAsked<'_>) -> Resu
         }));
     }
     Ok(())
-}
-
-// A policy's name and another one, as they are written together.
-pub(crate) fn pair_text(alloc: Global, policy: &[u8], other: &[u8]) -> Result<Text, NoMemory>
-    ensures { IfOk result (λ text. text ≡ pair_text policy.now other.now) }
-{
-    let mut text = policy.to_vec(alloc)?;
-    text.push(b'/')?;
-    text.extend_from_slice(other)?;
-    Ok(Text::from_vec(text))
 }

@@ -13,11 +13,10 @@ ghost use Rattle.desk_rules.specs.Seen.{room_under, seen};
 
 use crate::NoMemory;
 use crate::asked::BackupAsked;
-use crate::backup_clients::pair_text;
 use crate::refusal::Refusal;
 use desk_model::Site;
 use image_catalogue::Catalogue;
-use policy_book::{Book, Policy, first_unit};
+use policy_book::{Book, Policy, first_unit, pair_text};
 use schedule_windows::{Zone, is_any_open};
 use site_types::{Answer, Copied, Kind, LAST_MOMENT, Name, Schedule, Start, Text, Unit};
 use slp_tree::Slp;

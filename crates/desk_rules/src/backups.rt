@@ -26,13 +26,13 @@ use site_types::{Answer, BackupId, Base, Name, Schedule, Text};
 use std::alloc::Global;
 
 // The payload is sealed as an image at this moment.
-pub(crate) fn decide_backup(
+pub(crate) fn decide_backup<'a>(
     alloc: Global,
     site: &Site,
     images: &Catalogue,
     asked: &BackupAsked<'_>,
     moment: u64,
-) -> Result<Decision, NoMemory>
+) -> Result<Decision<'a>, NoMemory>
     requires { moment ≤ last_moment }
     ensures { IfOk result (λ d. d ≡ settled (first_refusal (backup_refusals (asked_by asked.now) moment (seen site.now images.now))) (backup_answer (asked_by asked.now) moment (seen site.now images.now)) (change.SealNow (backup_body (asked_by asked.now) moment (seen site.now images.now)))) }
 {

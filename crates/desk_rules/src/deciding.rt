@@ -1,6 +1,7 @@
 // What a request is answered, and what it changes.
 ghost use Rattle.std.specs.Prelude.{◌≡◌, ◌≤◌, ℕ, List, length, IfOk};
 ghost use Rattle.site_types.specs.Limits.{last_moment};
+ghost use Rattle.site_types.specs.Lines.{IsFormed};
 ghost use Rattle.desk_model.specs.State.{State};
 ghost use Rattle.desk_rules.specs.Decisions.{IsDecision, IsStateOf};
 
@@ -16,15 +17,16 @@ use std::alloc::Global;
 
 /// What a request is answered at a moment, in seconds since 1970-01-01T00:00:00Z, and what it changes of a site with these
 /// images and no open jobs. Of the payload only its length in bytes is looked at. The one error is that no memory was left.
-pub fn decide(
+pub fn decide<'a>(
     alloc: Global,
     site: &Site,
     images: &Catalogue,
-    request: &Request,
+    request: &'a Request,
     payload: u64,
     moment: u64,
-) -> Result<Decision, NoMemory>
-    requires { moment ≤ last_moment }
+) -> Result<Decision<'a>, NoMemory>
+    requires moment { moment ≤ last_moment }
+    requires formed { IsFormed request.now }
     ensures decided { (s : State) (bytes : List ℕ) → IsStateOf site.now images.now s → length bytes ≡ payload → IfOk result (IsDecision s request.now bytes moment) }
 {
     match request.by_class() {

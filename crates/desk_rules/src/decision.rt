@@ -1,3 +1,5 @@
+use policy_book::StagedChange;
+use schedule_windows::Zone;
 use site_types::{Answer, BackupId, Base, Kind, Name};
 
 /// What a job makes, or a request for a backup at once.
@@ -16,12 +18,21 @@ pub enum JobBody {
     },
 }
 
+/// A change of a site that nothing refuses.
+#[derive(Debug, Drop)]
+pub enum SiteChange<'a> {
+    /// It was staged for the site's book.
+    Book(StagedChange<'a>),
+    /// This zone is set.
+    Zone(Zone),
+}
+
 /// What a request changes, up to what its payload's bytes decide.
 #[derive(Debug, Drop)]
-pub enum Change {
+pub enum Change<'a> {
     Nothing,
     /// The change of the request itself to the book or the zone.
-    Settings,
+    Settings { change: SiteChange<'a> },
     /// Those of the requests in the payload.
     Load,
     /// The image of the payload is sealed.
@@ -31,7 +42,7 @@ pub enum Change {
 /// What a request is answered, and what it changes. The bytes of a payload or of an image aren't looked at: an answer that
 /// they decide is Done without a body.
 #[derive(Debug, Drop)]
-pub struct Decision {
+pub struct Decision<'a> {
     pub answer: Answer,
-    pub change: Change,
+    pub change: Change<'a>,
 }

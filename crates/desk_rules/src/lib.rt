@@ -13,11 +13,10 @@ mod last_times;
 mod refusal;
 mod restores;
 mod settings;
-#[cfg(test)]
-mod tests;
+mod zone;
 
 pub use deciding::decide;
-pub use decision::{Change, Decision, JobBody};
+pub use decision::{Change, Decision, JobBody, SiteChange};
 pub use due_list::due_backups;
 
 /// No memory was left.

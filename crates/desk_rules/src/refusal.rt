@@ -42,7 +42,7 @@ impl From<BookFault> for Refusal {
 }
 
 // What is refused changes nothing.
-pub(crate) fn refused(refusal: Refusal) -> Result<Decision, NoMemory>
+pub(crate) fn refused<'a>(refusal: Refusal) -> Result<Decision<'a>, NoMemory>
     ensures answer { IfOk result (λ d. refusal ≡ variant.Answered d.answer) }
     ensures change { IfOk result (λ d. d.change ≡ change.Nothing) }
 {

@@ -19,12 +19,12 @@ use site_types::{Answer, BackupId, ImageRecord, PAYLOAD_LIMIT, Text};
 use std::alloc::Global;
 
 // The bytes of the image are its answer, and aren't looked at.
-pub(crate) fn decide_restore(
+pub(crate) fn decide_restore<'a>(
     alloc: Global,
     images: &Catalogue,
     id: &BackupId,
     copy: Option<u8>,
-) -> Result<Decision, NoMemory>
+) -> Result<Decision<'a>, NoMemory>
     ensures { IfOk result (λ d. d ≡ settled (first_refusal (restore_refusals (option_map blank (record_named id.now images.now)) id.now copy)) (answer.Done []) change.Nothing) }
 {
     match check_restore(alloc, images, id, copy) {

@@ -1,64 +1,81 @@
 // Changes of the site.
-ghost use Rattle.std.specs.Prelude.{◌≡◌, [], map, IfOk, None};
+ghost use Rattle.std.specs.Prelude.{◌≡◌, [], map, true, IfOk, None};
 ghost use Rattle.std.specs.Option.{option_copied};
+ghost use Rattle.site_types.specs.Lines.{IsFormed};
 ghost use Rattle.site_types.specs.declared.answer.Answer.TheVariants as answer;
 ghost use Rattle.desk_model.specs.declared.site.Site.{Site as SiteValue};
 ghost use Rattle.policy_book.specs.Requests.{refusals_of};
 ghost use Rattle.desk_model.specs.Refusals.{first_refusal};
-ghost use Rattle.desk_model.specs.Settings.{refusal_answer, setting_refusals, use_refusals, used_by};
-ghost use Rattle.desk_rules.specs.declared.decision.Change.TheVariants as change;
-ghost use Rattle.desk_rules.specs.Refusing.{Passes, settled};
+ghost use Rattle.desk_model.specs.Settings.{is_setting, refusal_answer, setting_refusals, use_refusals, used_by};
+ghost use Rattle.desk_rules.specs.Decisions.{DecidesAs, SetsSite};
+ghost use Rattle.desk_rules.specs.Refusing.{Passes};
 ghost use Rattle.desk_rules.specs.Seen.{seen};
+ghost use Rattle.desk_rules.specs.SiteChanges.{IsSiteChange};
 
 use crate::refusal::{Refusal, refused};
-use crate::{Change, Decision, NoMemory};
+use crate::zone::zone_given;
+use crate::{Change, Decision, NoMemory, SiteChange};
 use desk_model::Site;
 use image_catalogue::Catalogue;
-use policy_book::Book;
 use site_types::{Answer, ImageRecord, Name, Request, Text};
 use std::alloc::Global;
 
-pub(crate) fn decide_setting(
+pub(crate) fn decide_setting<'a>(
     alloc: Global,
     site: &Site,
     images: &Catalogue,
-    request: &Request,
-) -> Result<Decision, NoMemory>
-    ensures { IfOk result (λ d. d ≡ settled (first_refusal (setting_refusals request.now (seen site.now images.now))) (answer.Done []) change.Settings) }
+    request: &'a Request,
+) -> Result<Decision<'a>, NoMemory>
+    requires setting { is_setting request.now ≡ true }
+    requires formed { IsFormed request.now }
+    ensures { IfOk result (DecidesAs (first_refusal (setting_refusals request.now (seen site.now images.now))) (answer.Done []) (SetsSite site.now request.now)) }
 {
-    match check_setting(alloc, site, images, request) {
-        Ok(()) => Ok(Decision {
+    match stage(alloc, site, images, request) {
+        Ok(change) => Ok(Decision {
             answer: Answer::Done {
                 body: Text::from_vec(Vec::new(alloc)),
             },
-            change: Change::Settings,
+            change: Change::Settings { change },
         }),
         Err(refusal) => refused(refusal),
     }
 }
 
-fn check_setting(
+// The change, where nothing refuses it.
+fn stage<'a>(
     alloc: Global,
     site: &Site,
     images: &Catalogue,
-    request: &Request,
-) -> Result<(), Refusal>
-    ensures { Passes (setting_refusals request.now (seen site.now images.now)) result }
+    request: &'a Request,
+) -> Result<SiteChange<'a>, Refusal>
+    requires setting { is_setting request.now ≡ true }
+    requires formed { IsFormed request.now }
+    ensures passes { Passes (setting_refusals request.now (seen site.now images.now)) result }
+    ensures change { IfOk result (IsSiteChange site.now request.now) }
 {
-    check_book(alloc, &site.book, request)?;
-    check_unused(alloc, images, request)
+    let change = stage_change(alloc, site, request)?;
+    check_unused(alloc, images, request)?;
+    Ok(change)
 }
 
-// The book takes the request, where it is one that changes the book.
-fn check_book(alloc: Global, book: &Book, request: &Request) -> Result<(), Refusal>
-    ensures { Passes (map (λ r. (r.0, refusal_answer r.1)) (refusals_of request.now book.now)) result }
+// The change, where the book doesn't refuse it.
+fn stage_change<'a>(
+    alloc: Global,
+    site: &Site,
+    request: &'a Request,
+) -> Result<SiteChange<'a>, Refusal>
+    requires setting { is_setting request.now ≡ true }
+    requires formed { IsFormed request.now }
+    ensures passes { Passes (map (λ r. (r.0, refusal_answer r.1)) (refusals_of request.now site.now.book)) result }
+    ensures change { IfOk result (IsSiteChange site.now request.now) }
 {
     match request {
-        Request::ZoneSet { .. }
-        | Request::Load
-        | Request::Backup { .. }
-        | Request::Restore { .. } => Ok(()),
-        _ => Ok(book.check(alloc, request)?),
+        Request::ZoneSet { rule, offset } => {
+            let zone = zone_given(alloc, rule.as_ref(), *offset)?;
+            Ok(SiteChange::Zone(zone))
+        }
+        // What sets no zone changes the book, which the proof shows of each form.
+        _ => Ok(SiteChange::Book(site.book.check(alloc, request)?)),
     }
 }
 

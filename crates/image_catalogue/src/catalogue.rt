@@ -11,6 +11,10 @@ use std::collections::BTreeMap;
 use std::collections::btree_map::Values;
 use std::marker::Model;
 
+// An image of any client is added to an ordered map without moving the others, so an opening of a million images, which adds
+// them one by one, isn't quadratic. The key is a copy of the image's id, and each record stays whole, so contracts still see
+// the list of the images.
+
 /// The images of a vault, by client and then by time, and the bytes that their kept copies have on each unit. Contracts see it
 /// as the list of its images.
 #[derive(Debug, Drop)]

@@ -9,7 +9,7 @@ use Rattle.image_kinds.specs.declared.entry.Item.{Item}
 use Rattle.image_kinds.specs.declared.entry.Item.TheVariants.{Taken, Kept}
 use Rattle.image_kinds.specs.declared.format.Format.{Format}
 use Rattle.image_kinds.specs.Streams.{path_of, spelled_path, spelled_content, spelled_item, IsEntry, IsItem, keeps, names_path, is_tag, PathBreaks, path_length_ends, wrong_path_length, path_ends, wrong_path, FileEnds, time_ends, content_length_ends, content_ends, Breaks, no_tag, wrong_tag, behind_end, in_path, in_file}
-use Rattle.image_kinds.specs.Fields.{◌>>=◌, number_at, text_at, path_length_at, path_bytes_at, path_at, content_at, entry_at, end_at, taken_at, kept_at, item_at}
+use Rattle.image_kinds.specs.Fields.{◌>>=◌, whole, number_at, text_at, path_length_at, path_bytes_at, path_at, content_at, entry_at, end_at, taken_at, kept_at, item_at}
 use Rattle.image_kinds.proofs.Reading.{wide16, wide64, number_again, text_again}
 
 -- one reader behind another
@@ -20,10 +20,10 @@ stops : {A B : Type 0} (r : Result A ℕ) (f : A → Result B ℕ) (left : ℕ) 
 stops r f left is = ap (λ (q : Result _ ℕ). q >>= f) is
 
 number_stops : (w : Width) (bytes : List ℕ) → length bytes < byte_len w → number_at w bytes ≡ Err 0
-number_stops w bytes short = cond-true (ltb (length bytes) (byte_len w)) (Err 0) (Ok (from_be_bytes w (take (byte_len w) bytes), drop (byte_len w) bytes)) (lt-ltb (length bytes) (byte_len w) short)
+number_stops w bytes short = ap whole (cond-true (ltb (length bytes) (byte_len w)) None (Some (from_be_bytes w (take (byte_len w) bytes), drop (byte_len w) bytes)) (lt-ltb (length bytes) (byte_len w) short))
 
 text_stops : (count : ℕ) (bytes : List ℕ) → length bytes < count → text_at count bytes ≡ Err 0
-text_stops count bytes short = cond-true (ltb (length bytes) count) (Err 0) (Ok (take count bytes, drop count bytes)) (lt-ltb (length bytes) count short)
+text_stops count bytes short = ap whole (cond-true (ltb (length bytes) count) None (Some (take count bytes, drop count bytes)) (lt-ltb (length bytes) count short))
 
 small_length : (count : ℕ) → is_path_length count ≡ true → count < 2 ^ 16
 small_length count ok = omega (arith, leb-true count 1024 (and_parts (leb 1 count) (leb count 1024) ok).1)

@@ -11,7 +11,7 @@ use Rattle.image_kinds.specs.declared.entry.Item.{Item}
 use Rattle.image_kinds.specs.declared.entry.Item.TheVariants.{Taken, Kept}
 use Rattle.image_kinds.specs.declared.format.Format.{Format}
 use Rattle.image_kinds.specs.Streams.{path_of, spelled_path, spelled_content, spelled_item, IsEntry, IsItem, keeps, names_path, PathBreaks, path_length_ends, wrong_path_length, path_ends, wrong_path, FileEnds, time_ends, content_length_ends, content_ends, Breaks, no_tag, wrong_tag, behind_end, in_path, in_file}
-use Rattle.image_kinds.specs.Fields.{◌>>=◌, number_at, text_at, path_length_at, path_bytes_at, path_at, content_at, entry_at, end_at, taken_at, kept_at, tagged_at, item_at}
+use Rattle.image_kinds.specs.Fields.{◌>>=◌, whole, number_at, text_at, path_length_at, path_bytes_at, path_at, content_at, entry_at, end_at, taken_at, kept_at, tagged_at, item_at}
 
 abbrev pub IsBytes : List ℕ → Type 0
 IsBytes bytes = (i : ℕ) → get_or bytes i 0 < 256
@@ -49,6 +49,11 @@ pub choose_law : {A : Type 0} (b : Bool) (x y : Result A ℕ) (P : A → Type 0)
 choose_law true x y P E passes fails = passes refl
 choose_law false x y P E passes fails = fails refl
 
+-- a field that is whole, or within which the bytes end
+field_law : {A : Type 0} (b : Bool) (x : A × List ℕ) (P : A × List ℕ → Type 0) (E : ℕ → Type 0) → (b ≡ true → E 0) → (b ≡ false → P x) → MatchResult (whole (cond b None (Some x))) P E
+field_law true x P E ends reads = ends refl
+field_law false x P E ends reads = reads refl
+
 weaker : {A : Type 0} (r : Result A ℕ) (P : A → Type 0) (E : ℕ → Type 0) (Q : A → Type 0) (F : ℕ → Type 0) → MatchResult r P E → ((x : A) → P x → Q x) → ((left : ℕ) → E left → F left) → MatchResult r Q F
 weaker (Ok x) P E Q F p on_ok on_err = on_ok x p
 weaker (Err left) P E Q F p on_ok on_err = on_err left p
@@ -85,7 +90,7 @@ EndsWithin count bytes left = (length bytes < count) × (left ≡ 0)
 
 number_law : (w : Width) (limit : ℕ) (wide : IsWide w limit) (bytes : List ℕ) → IsBytes bytes → MatchResult (number_at w bytes) (TakesNumber w limit bytes) (EndsWithin (byte_len w) bytes)
 number_law w limit wide bytes fits =
-    choose_law (ltb (length bytes) (byte_len w)) (Err 0) (Ok (from_be_bytes w (take (byte_len w) bytes), drop (byte_len w) bytes)) (TakesNumber w limit bytes) (EndsWithin (byte_len w) bytes)
+    field_law (ltb (length bytes) (byte_len w)) (from_be_bytes w (take (byte_len w) bytes), drop (byte_len w) bytes) (TakesNumber w limit bytes) (EndsWithin (byte_len w) bytes)
     (λ short. (ltb-true (length bytes) (byte_len w) short, refl))
     (λ enough.
     let long : byte_len w ≤ length bytes = ltb-false _ _ enough in
@@ -103,7 +108,7 @@ TakesText count bytes t = Takes bytes t.0 t.1 × (length t.0 ≡ count)
 
 text_law : (count : ℕ) (bytes : List ℕ) → IsBytes bytes → MatchResult (text_at count bytes) (TakesText count bytes) (EndsWithin count bytes)
 text_law count bytes fits =
-    choose_law (ltb (length bytes) count) (Err 0) (Ok (take count bytes, drop count bytes)) (TakesText count bytes) (EndsWithin count bytes)
+    field_law (ltb (length bytes) count) (take count bytes, drop count bytes) (TakesText count bytes) (EndsWithin count bytes)
     (λ short. (ltb-true (length bytes) count short, refl))
     (λ enough.
     let long : count ≤ length bytes = ltb-false _ _ enough in

@@ -1,8 +1,8 @@
 -- Fields, read from the front of some bytes.
-use Rattle.std.specs.Prelude.{◌≡◌, ℕ, ◌&&◌, ◌==◌, if◌then◌else◌, nat_lt, nat_eq, List, [], ◌∷◌, length, take, drop, Option, Some, None, Result, Ok, Err}
+use Rattle.std.specs.Prelude.{◌≡◌, ℕ, ◌&&◌, ◌==◌, if◌then◌else◌, nat_eq, List, [], ◌∷◌, length, drop, Option, Some, None, Result, Ok, Err}
 use Rattle.std.specs.List.{starts_with}
-use Rattle.std.specs.Borrow.{Bor}
-use Rattle.std.specs.Int.{Width, w16, w64, byte_len, from_be_bytes}
+use Rattle.std.specs.Int.{Width, w16, w64}
+use Rattle.site_types.specs.Fields.{byte_field, number_field, bytes_field}
 use Rattle.image_kinds.specs.Paths.{is_path_length, follows}
 use Rattle.image_kinds.specs.Streams.{keeps}
 use Rattle.image_kinds.specs.declared.entry.Entry.{Entry}
@@ -21,15 +21,19 @@ abbrev pub ◌>>=◌ : {A B : Type 0} → Result A ℕ → (A → Result B ℕ) 
 (Ok x) >>= f = f x
 (Err left) >>= f = Err left
 
+-- where the bytes end within a field, none are left
+abbrev pub whole : {A : Type 0} → Option (A × List ℕ) → Read A
+whole (Some read) = Ok read
+whole None = Err 0
+
 abbrev pub byte_at : List ℕ → Read ℕ
-byte_at [] = Err 0
-byte_at (byte ∷ rest) = Ok (byte, rest)
+byte_at bytes = whole (byte_field bytes)
 
 abbrev pub number_at : Width → List ℕ → Read ℕ
-number_at w bytes = if nat_lt (length bytes) (byte_len w) then Err 0 else Ok (from_be_bytes w (take (byte_len w) bytes), drop (byte_len w) bytes)
+number_at w bytes = whole (number_field w bytes)
 
 abbrev pub text_at : ℕ → List ℕ → Read (List ℕ)
-text_at count bytes = if nat_lt (length bytes) count then Err 0 else Ok (take count bytes, drop count bytes)
+text_at count bytes = whole (bytes_field count bytes)
 
 -- the letters, where a beginning of them that the bytes end within breaks at the end
 abbrev pub letters_at : List ℕ → List ℕ → Result (List ℕ) ℕ
@@ -74,11 +78,6 @@ abbrev pub IsRead : {A : Type 0} → Result A FieldFault → Read A → List ℕ
 IsRead (Ok value) read rest = read ≡ Ok (value, rest)
 IsRead (Err (Broken left)) read rest = read ≡ Err left
 IsRead (Err NoMemory) read rest = Unit {0}
-
--- a result with the bytes that its reference points to
-abbrev pub borrowed : Result (Bor (List ℕ)) FieldFault → Result (List ℕ) FieldFault
-borrowed (Ok value) = Ok value.now
-borrowed (Err fault) = Err fault
 
 -- the bytes behind a field that has no value
 abbrev pub IsAfter : {A : Type 0} → Result A FieldFault → Result (List ℕ) ℕ → List ℕ → Type 0

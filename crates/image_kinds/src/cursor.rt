@@ -1,13 +1,13 @@
 // Reading the fields of a stream, from its front on.
 ghost use Rattle.std.specs.Prelude.{◌≡◌, ◌&&◌, ◌==◌, length, Option, Result, Ok, Err};
-ghost use Rattle.std.specs.Int.{w16, w64};
+ghost use Rattle.site_types.specs.Fields.{borrowed};
 ghost use Rattle.image_kinds.specs.Streams.{letters_of};
-ghost use Rattle.image_kinds.specs.Fields.{byte_at, number_at, text_at, letters_at, path_length_at, path_bytes_at, path_at, content_at, entry_at, end_at, taken_at, kept_at, tagged_at, item_at, IsRead, IsAfter, borrowed};
+ghost use Rattle.image_kinds.specs.Fields.{letters_at, path_length_at, path_bytes_at, path_at, content_at, entry_at, end_at, taken_at, kept_at, tagged_at, item_at, IsRead, IsAfter};
 
 use crate::entry::{Entry, Item};
 use crate::format::Format;
 use crate::path::{follows, is_path_length};
-use site_types::{NoMemory, Text};
+use site_types::{Ended, Fields, NoMemory, Text};
 use std::alloc::{AllocFailed, Global};
 use std::marker::Model;
 
@@ -41,10 +41,21 @@ impl<T: Drop> From<AllocFailed<T>> for FieldFault {
     }
 }
 
+impl From<Ended> for FieldFault {
+    ghost use Rattle.std.specs.Prelude.{◌≡◌};
+    ghost use Rattle.image_kinds.specs.declared.cursor.FieldFault.TheVariants as fault;
+
+    ghost from_gives = { λ _ e. e ≡ fault.Broken 0 };
+
+    fn from(_: Ended) -> FieldFault {
+        FieldFault::Broken(0)
+    }
+}
+
 // The bytes that are still to be read.
 #[derive(Drop)]
 pub struct Cursor<'a> {
-    rest: &'a [u8],
+    fields: Fields<'a>,
 }
 
 impl<'a> Model for Cursor<'a> {
@@ -52,76 +63,38 @@ impl<'a> Model for Cursor<'a> {
 
     ghost Value = { List ℕ };
 
-    ghost view = { λ c. c.rest.now };
+    ghost view = { λ c. c.fields };
 }
 
 impl<'a> Cursor<'a> {
     pub fn new(bytes: &'a [u8]) -> Cursor<'a>
         ensures { result ≡ bytes.now }
     {
-        Cursor { rest: bytes }
+        Cursor {
+            fields: Fields::new(bytes),
+        }
     }
 
     pub fn letters(&mut self, format: Format) -> Result<(), FieldFault>
         ensures { IsAfter result (letters_at (letters_of format) self.old) self.new }
     {
         let letters = format.letters();
-        if self.rest.starts_with(letters) {
-            self.rest = &self.rest[letters.len()..];
+        let bytes = self.fields.rest();
+        if bytes.starts_with(letters) {
+            self.fields = Fields::new(&bytes[letters.len()..]);
             return Ok(());
         }
-        if letters.starts_with(self.rest) {
+        if letters.starts_with(bytes) {
             return Err(FieldFault::Broken(0));
         }
-        Err(FieldFault::Broken(self.rest.len()))
-    }
-
-    fn byte(&mut self) -> Result<u8, FieldFault>
-        ensures { IsRead result (byte_at self.old) self.new }
-    {
-        let [byte, rest @ ..] = self.rest else {
-            return Err(FieldFault::Broken(0));
-        };
-        self.rest = rest;
-        Ok(*byte)
-    }
-
-    fn short(&mut self) -> Result<u16, FieldFault>
-        ensures { IsRead result (number_at w16 self.old) self.new }
-    {
-        let [a, b, rest @ ..] = self.rest else {
-            return Err(FieldFault::Broken(0));
-        };
-        self.rest = rest;
-        Ok(u16::from_be_bytes([*a, *b]))
-    }
-
-    fn long(&mut self) -> Result<u64, FieldFault>
-        ensures { IsRead result (number_at w64 self.old) self.new }
-    {
-        let [a, b, c, d, e, f, g, h, rest @ ..] = self.rest else {
-            return Err(FieldFault::Broken(0));
-        };
-        self.rest = rest;
-        Ok(u64::from_be_bytes([*a, *b, *c, *d, *e, *f, *g, *h]))
-    }
-
-    fn text(&mut self, count: u64) -> Result<&'a [u8], FieldFault>
-        ensures { IsRead (borrowed result) (text_at count self.old) self.new }
-    {
-        if count > self.rest.len() as u64 {
-            return Err(FieldFault::Broken(0));
-        }
-        let (text, rest) = self.rest.split_at(count as usize);
-        self.rest = rest;
-        Ok(text)
+        Err(FieldFault::Broken(bytes.len()))
     }
 
     fn path_length(&mut self) -> Result<u16, FieldFault>
         ensures { IsRead result (path_length_at self.old) self.new }
     {
-        let left = self.rest.len();
-        let count = self.short()?;
+        let left = self.fields.rest().len();
+        let count = self.fields.short()?;
         if !is_path_length(usize::from(count)) {
             return Err(FieldFault::Broken(left));
         }
@@ -131,8 +104,8 @@ impl<'a> Cursor<'a> {
     fn path_bytes(&mut self, last: &[u8], count: u16) -> Result<&'a [u8], FieldFault>
         ensures { IsRead (borrowed result) (path_bytes_at last.now count self.old) self.new }
     {
-        let left = self.rest.len();
-        let path = self.text(u64::from(count))?;
+        let left = self.fields.rest().len();
+        let path = self.fields.bytes(u64::from(count))?;
         if !follows(last, path) {
             return Err(FieldFault::Broken(left));
         }
@@ -151,8 +124,8 @@ impl<'a> Cursor<'a> {
     fn content(&mut self, alloc: Global) -> Result<Text, FieldFault>
         ensures { IsRead result (content_at self.old) self.new }
     {
-        let count = self.long()?;
-        let content = self.text(count)?;
+        let count = self.fields.long()?;
+        let content = self.fields.bytes(count)?;
         Ok(Text::new(alloc, content)?)
     }
 
@@ -160,7 +133,7 @@ impl<'a> Cursor<'a> {
         ensures { IsRead result (entry_at last.now self.old) self.new }
     {
         let path = self.path(alloc, last)?;
-        let time = self.long()?;
+        let time = self.fields.long()?;
         let content = self.content(alloc)?;
         Ok(Entry {
             path,
@@ -173,8 +146,9 @@ impl<'a> Cursor<'a> {
     fn end(&mut self) -> Result<Option<Item>, FieldFault>
         ensures { IsRead result (end_at self.old) self.new }
     {
-        if !self.rest.is_empty() {
-            return Err(FieldFault::Broken(self.rest.len()));
+        let left = self.fields.rest().len();
+        if left != 0 {
+            return Err(FieldFault::Broken(left));
         }
         Ok(None)
     }
@@ -202,8 +176,8 @@ impl<'a> Cursor<'a> {
     ) -> Result<Option<Item>, FieldFault>
         ensures { IsRead result (item_at format last.now self.old) self.new }
     {
-        let left = self.rest.len();
-        match self.byte()? {
+        let left = self.fields.rest().len();
+        match self.fields.byte()? {
             0 => self.end(),
             1 => self.taken(alloc, last),
             2 if format.keeps() => self.kept(alloc, last),

@@ -5,7 +5,7 @@ ghost use Rattle.image_kinds.specs.Images.{is_above, selects, is_selected, item_
 use crate::entry::{Entry, Item};
 use crate::path::begins_with_slash;
 use crate::stream::{ImageBody, Stream};
-use site_types::{NoMemory, Text};
+use site_types::{Copied, NoMemory, Text};
 use std::alloc::Global;
 
 // Whether a selection is followed in a path by a slash.
@@ -38,20 +38,14 @@ fn was_before(time: u64, reference: Option<u64>) -> bool
     }
 }
 
-fn copy_of(alloc: Global, text: &Text) -> Result<Text, NoMemory>
-    ensures { IfOk result (λ t. t ≡ text.now) }
-{
-    Text::new(alloc, text.bytes())
-}
-
 fn made_item(alloc: Global, entry: &Entry, reference: Option<u64>) -> Result<Item, NoMemory>
     ensures { IfOk result (λ i. i ≡ item_made reference entry.now) }
 {
-    let path = copy_of(alloc, &entry.path)?;
+    let path = entry.path.copy(alloc)?;
     if was_before(entry.time, reference) {
         return Ok(Item::Kept(path));
     }
-    let content = copy_of(alloc, &entry.content)?;
+    let content = entry.content.copy(alloc)?;
     Ok(Item::Taken(Entry {
         path,
         time: entry.time,

@@ -1,3 +1,4 @@
+// A path is looked up in each image by halving, so a merge takes n log n in the entries.
 ghost use Rattle.std.specs.Prelude.{◌≡◌, ◌<◌, ◌++◌, ◌∷◌, [], ℕ, List, true, length, map, IfOk};
 ghost use Rattle.std.specs.Option.{option_copied};
 ghost use Rattle.image_kinds.specs.Paths.{are_rising};

@@ -1,14 +1,11 @@
 -- Books with another list.
 use Rattle.std.proofs.Common.{◌≡◌, ◌∙◌, ℕ, List, get_or, set, ap, sym, refl}
-use Rattle.std.specs.Prelude.{[], ◌∷◌, ◌++◌, filter, not}
-use Rattle.std.specs.Str.{bytes_eq}
 use Rattle.site_types.specs.declared.unit.Unit.{Unit as StorageUnit}
-use Rattle.site_types.specs.declared.schedule.Schedule.{Schedule}
 use Rattle.policy_book.specs.declared.client.Client.{Client}
 use Rattle.policy_book.specs.declared.book.Book.TheInside.{Inside}
-use Rattle.policy_book.specs.Lists.{AreByName, put, without, itself}
+use Rattle.policy_book.specs.Lists.{AreByName}
 use Rattle.policy_book.specs.Places.{StandsAt}
-use Rattle.policy_book.specs.Book.{Book, Policy, policy_name, schedule_name}
+use Rattle.policy_book.specs.Book.{Book, Policy, policy_name}
 use Rattle.policy_book.specs.Changes.{with_policy}
 use Rattle.policy_book.proofs.ListLemmas.{changed_in_place, stands_as}
 
@@ -32,23 +29,3 @@ policy_in_place b now name change i x new is rising at found made =
     (changed_in_place policy_name b.policies.items name change i x new rising
     (stands_as policy_name b.policies.items now.policies name name i (ap (λ (c : Book). c.policies) (sym is)) refl at) found made)
     ∙ ap (with_policy name change) is
-
--- The changes of a policy.
-
-abbrev pub with_listed : List ℕ → Policy → Policy
-with_listed client p = record p { clients = put itself client p.clients }
-
-abbrev pub without_listed : List ℕ → Policy → Policy
-without_listed client p = record p { clients = without itself client p.clients }
-
-abbrev pub with_path : List ℕ → Policy → Policy
-with_path path p = record p { selections = p.selections ++ path ∷ [] }
-
-abbrev pub without_path : List ℕ → Policy → Policy
-without_path path p = record p { selections = filter (λ s. not (bytes_eq s path)) p.selections }
-
-abbrev pub with_schedule : Schedule → Policy → Policy
-with_schedule schedule p = record p { schedules = put schedule_name schedule p.schedules }
-
-abbrev pub without_schedule : List ℕ → Policy → Policy
-without_schedule schedule p = record p { schedules = without schedule_name schedule p.schedules }

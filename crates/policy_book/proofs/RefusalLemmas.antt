@@ -1,8 +1,6 @@
 -- The first refusal of a list.
-use Rattle.std.proofs.Common.{◌≡◌, Bool, List, true, false, cond, [], ◌∷◌, Some, None, Ok, Err, sym, ◌∙◌, ap, inr}
+use Rattle.std.proofs.Common.{◌≡◌, Bool, true, false, cond, [], ◌∷◌, Some, None, Ok, Err, sym, ◌∙◌, ap, inr}
 use Rattle.policy_book.specs.declared.fault.BookFault.{BookFault}
-use Rattle.policy_book.specs.Book.{Book}
-use Rattle.policy_book.specs.Changes.{first_refusal, Applied}
 use Rattle.policy_book.specs.Refusals.{Allows}
 
 pub passes : {A : Type 0} (b : Bool) (f : BookFault) (x : A) → b ≡ false → Allows ((b, f) ∷ []) (Ok x)
@@ -10,6 +8,3 @@ passes b f x apart = record { allowed = λ j. cond (apart j) (Some f) None; refu
 
 pub refuses : {A : Type 0} (b : Bool) (f g : BookFault) → b ≡ true → g ≡ f → Allows {A = A} ((b, f) ∷ []) (Err g)
 refuses b f g holds is = record { allowed = tt; refused = inr ((λ j. cond (holds j) (Some f) None) ∙ ap (λ (h : BookFault). Some h) (sym is)) }
-
-pub applied : (refusals : List (Bool × BookFault)) (changed old new : Book) → first_refusal refusals ≡ None → new ≡ changed → Applied refusals changed old new (Ok tt)
-applied refusals changed old new allowed is = record { done = (allowed, is); refused = tt; unchanged = tt }

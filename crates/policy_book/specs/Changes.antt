@@ -1,5 +1,5 @@
 -- The changes of a book: for each, the refusals in their order, and the book afterwards.
-use Rattle.std.specs.Prelude.{◌≡◌, ◌⊎◌, ℕ, Bool, true, false, not, ◌&&◌, nat_le, is_some, if◌then◌else◌, List, [], ◌∷◌, ◌++◌, length, codes, Option, Some, None, find, filter, unwrap_or, max, Result, OnOk, IfErr}
+use Rattle.std.specs.Prelude.{ℕ, Bool, true, false, not, ◌&&◌, nat_le, is_some, List, [], ◌∷◌, ◌++◌, length, codes, Option, find, filter, unwrap_or, max}
 use Rattle.std.specs.List.{list_any}
 use Rattle.std.specs.Option.{option_map_or}
 use Rattle.std.specs.Str.{bytes_eq}
@@ -12,37 +12,27 @@ use Rattle.policy_book.specs.declared.client.Client.{Client}
 use Rattle.policy_book.specs.declared.units.NewUnit.{NewUnit}
 use Rattle.policy_book.specs.declared.units.UnitChange.{UnitChange}
 use Rattle.policy_book.specs.declared.fault.BookFault.{BookFault}
-use Rattle.policy_book.specs.declared.fault.BookFault.TheVariants.{Exists, Unknown, InUse, TooMany, Rule, NoMemory}
+use Rattle.policy_book.specs.declared.fault.BookFault.TheVariants.{Exists, Unknown, InUse, TooMany, Rule}
 use Rattle.policy_book.specs.Lists.{named, has, put, without, changed, itself}
 use Rattle.site_types.specs.Paths.{written}
 use Rattle.policy_book.specs.Book.{Policy, Book, unit_name, client_name, policy_name, schedule_name, unit_limit, client_limit, policy_limit, listed_limit, selection_limit, schedule_limit}
 
--- the first refusal that holds
-abbrev pub first_refusal : List (Bool × BookFault) → Option BookFault
-first_refusal [] = None
-first_refusal (r ∷ rs) = if r.0 then Some r.1 else first_refusal rs
-
--- A change is made where nothing refuses it. Else its first refusal is answered, and the book stays; want of memory may come in place of either.
-pub record Applied (refusals : List (Bool × BookFault)) (changed_book old new : Book) (result : Result (Unit {0}) BookFault) : Type 0 where
-  pub done : OnOk result ((first_refusal refusals ≡ None) × (new ≡ changed_book))
-  pub refused : IfErr result (λ fault. (fault ≡ NoMemory) ⊎ (first_refusal refusals ≡ Some fault))
-  pub unchanged : IfErr result (λ fault. new ≡ old)
-
 -- Units.
 
+abbrev pub unit_of : List ℕ → ℕ → NewUnit → StorageUnit
+unit_of name number u = record {
+  name = name;
+  number = number;
+  capacity = u.capacity;
+  segment = unwrap_or u.segment 131072;
+  fragment = unwrap_or u.fragment 4096;
+  slots = unwrap_or u.slots 8388608;
+  high = unwrap_or u.high 98;
+  low = unwrap_or u.low 80;
+}
+
 abbrev pub unit_added : List ℕ → NewUnit → Book → Book
-unit_added name u book =
-    let unit : StorageUnit = record {
-      name = name;
-      number = length book.units;
-      capacity = u.capacity;
-      segment = unwrap_or u.segment 131072;
-      fragment = unwrap_or u.fragment 4096;
-      slots = unwrap_or u.slots 8388608;
-      high = unwrap_or u.high 98;
-      low = unwrap_or u.low 80;
-    } in
-    record book { units = put unit_name unit book.units }
+unit_added name u book = record book { units = put unit_name (unit_of name (length book.units) u) book.units }
 
 abbrev pub unit_add_refusals : List ℕ → Book → List (Bool × BookFault)
 unit_add_refusals name book =
@@ -131,9 +121,6 @@ of_policy other f name book = option_map_or f (named policy_name name book.polic
 abbrev pub policy_with : Option Bool → Option (List ℕ) → Policy → Policy
 policy_with active lifecycle p = record p { active = unwrap_or active p.active; lifecycle = unwrap_or lifecycle p.lifecycle }
 
-abbrev pub policy_changed : List ℕ → Option Bool → Option (List ℕ) → Book → Book
-policy_changed name active lifecycle book = with_policy name (policy_with active lifecycle) book
-
 abbrev pub policy_change_refusals : List ℕ → Option (List ℕ) → Book → List (Bool × BookFault)
 policy_change_refusals name lifecycle book =
     lacks_policy name book
@@ -157,8 +144,8 @@ pair_text policy other = policy ++ codes "/" ++ other
 abbrev pub clients_of : List ℕ → Book → List (List ℕ)
 clients_of policy book = of_policy [] (λ p. p.clients) policy book
 
-abbrev pub client_listed : List ℕ → List ℕ → Book → Book
-client_listed policy client book = with_policy policy (λ p. record p { clients = put itself client p.clients }) book
+abbrev pub with_listed : List ℕ → Policy → Policy
+with_listed client p = record p { clients = put itself client p.clients }
 
 abbrev pub client_list_refusals : List ℕ → List ℕ → Book → List (Bool × BookFault)
 client_list_refusals policy client book =
@@ -168,8 +155,8 @@ client_list_refusals policy client book =
     ∷ (has itself client (clients_of policy book), Exists (pair_text policy client))
     ∷ []
 
-abbrev pub client_unlisted : List ℕ → List ℕ → Book → Book
-client_unlisted policy client book = with_policy policy (λ p. record p { clients = without itself client p.clients }) book
+abbrev pub without_listed : List ℕ → Policy → Policy
+without_listed client p = record p { clients = without itself client p.clients }
 
 abbrev pub client_unlist_refusals : List ℕ → List ℕ → Book → List (Bool × BookFault)
 client_unlist_refusals policy client book =
@@ -185,8 +172,8 @@ selections_of policy book = of_policy [] (λ p. p.selections) policy book
 abbrev pub is_selected : List ℕ → List ℕ → Book → Bool
 is_selected policy path book = list_any (λ s. bytes_eq s path) (selections_of policy book)
 
-abbrev pub path_selected : List ℕ → List ℕ → Book → Book
-path_selected policy path book = with_policy policy (λ p. record p { selections = p.selections ++ path ∷ [] }) book
+abbrev pub with_path : List ℕ → Policy → Policy
+with_path path p = record p { selections = p.selections ++ path ∷ [] }
 
 abbrev pub select_refusals : List ℕ → List ℕ → Book → List (Bool × BookFault)
 select_refusals policy path book =
@@ -195,8 +182,8 @@ select_refusals policy path book =
     ∷ (is_selected policy path book, Exists (written path))
     ∷ []
 
-abbrev pub path_unselected : List ℕ → List ℕ → Book → Book
-path_unselected policy path book = with_policy policy (λ p. record p { selections = filter (λ s. not (bytes_eq s path)) p.selections }) book
+abbrev pub without_path : List ℕ → Policy → Policy
+without_path path p = record p { selections = filter (λ s. not (bytes_eq s path)) p.selections }
 
 abbrev pub unselect_refusals : List ℕ → List ℕ → Book → List (Bool × BookFault)
 unselect_refusals policy path book =
@@ -218,26 +205,26 @@ is_full Cumulative = false
 abbrev pub breaks_rule_8 : List ℕ → Kind → Book → Bool
 breaks_rule_8 policy kind book = of_policy false (λ p. not p.files && not (is_full kind)) policy book
 
-abbrev pub schedule_put : List ℕ → Schedule → Book → Book
-schedule_put policy schedule book = with_policy policy (λ p. record p { schedules = put schedule_name schedule p.schedules }) book
+abbrev pub with_schedule : Schedule → Policy → Policy
+with_schedule schedule p = record p { schedules = put schedule_name schedule p.schedules }
 
-abbrev pub schedule_add_refusals : List ℕ → Schedule → Book → List (Bool × BookFault)
-schedule_add_refusals policy schedule book =
+abbrev pub schedule_add_refusals : List ℕ → List ℕ → Kind → Book → List (Bool × BookFault)
+schedule_add_refusals policy schedule kind book =
     lacks_policy policy book
     ∷ (nat_le schedule_limit (length (schedules_of policy book)), TooMany (codes "schedules") (length (schedules_of policy book)) schedule_limit)
-    ∷ (has schedule_name schedule.name (schedules_of policy book), Exists (pair_text policy schedule.name))
-    ∷ (breaks_rule_8 policy schedule.kind book, Rule 8)
+    ∷ (has schedule_name schedule (schedules_of policy book), Exists (pair_text policy schedule))
+    ∷ (breaks_rule_8 policy kind book, Rule 8)
     ∷ []
 
-abbrev pub schedule_change_refusals : List ℕ → Schedule → Book → List (Bool × BookFault)
-schedule_change_refusals policy schedule book =
+abbrev pub schedule_change_refusals : List ℕ → List ℕ → Kind → Book → List (Bool × BookFault)
+schedule_change_refusals policy schedule kind book =
     lacks_policy policy book
-    ∷ (not (has schedule_name schedule.name (schedules_of policy book)), Unknown (pair_text policy schedule.name))
-    ∷ (breaks_rule_8 policy schedule.kind book, Rule 8)
+    ∷ (not (has schedule_name schedule (schedules_of policy book)), Unknown (pair_text policy schedule))
+    ∷ (breaks_rule_8 policy kind book, Rule 8)
     ∷ []
 
-abbrev pub schedule_removed : List ℕ → List ℕ → Book → Book
-schedule_removed policy schedule book = with_policy policy (λ p. record p { schedules = without schedule_name schedule p.schedules }) book
+abbrev pub without_schedule : List ℕ → Policy → Policy
+without_schedule schedule p = record p { schedules = without schedule_name schedule p.schedules }
 
 abbrev pub schedule_remove_refusals : List ℕ → List ℕ → Book → List (Bool × BookFault)
 schedule_remove_refusals policy schedule book =

@@ -4,6 +4,7 @@ pub mod Book
 pub mod Kinds
 pub mod Changes
 pub mod Requests
+pub mod Staged
 pub mod Refusals
 pub mod SiteFile
 pub mod Loading

@@ -3,42 +3,20 @@ ghost use Rattle.std.specs.Prelude.{◌≡◌, true, ◌++◌, codes, IfOk, IsOk
 ghost use Rattle.std.specs.Option.{option_copied};
 ghost use Rattle.policy_book.specs.Lists.{has};
 ghost use Rattle.policy_book.specs.Book.{client_name};
-ghost use Rattle.policy_book.specs.Changes.{Applied, client_added, client_add_refusals, client_removed, client_remove_refusals, client_sealed, last_of, last_raised, lister};
+ghost use Rattle.policy_book.specs.Changes.{client_add_refusals, client_remove_refusals, client_sealed, last_of, last_raised, lister};
 ghost use Rattle.policy_book.specs.Refusals.{Allows};
 
 use crate::book::Book;
-use crate::named::{place, put, remove};
+use crate::named::place;
 use crate::refusals::{check_new, check_room, known_place};
 use crate::{BookFault, Client, NoMemory, Policy};
 use site_types::{Name, Text};
 use std::alloc::Global;
 
-const CLIENT_LIMIT: usize = 1024;
+/// How many clients there may be.
+pub const CLIENT_LIMIT: usize = 1024;
 
 impl Book {
-    /// Adds a client. Where 1,024 clients are there it answers `TooMany`, and where one has this name `Exists`.
-    pub fn add_client(&mut self, alloc: Global, name: &Name) -> Result<(), BookFault>
-        ensures { Applied (client_add_refusals name.now self.old) (client_added name.now self.old) self.old self.new result }
-    {
-        self.check_client_add(alloc, name)?;
-        let client = Client {
-            name: name.copy(alloc)?,
-            last: 0,
-        };
-        put(&mut self.clients, client)?;
-        Ok(())
-    }
-
-    /// Removes a client. Where no client has this name it answers `Unknown`, and where a policy lists it `InUse` by the first
-    /// such policy.
-    pub fn remove_client(&mut self, alloc: Global, name: &Name) -> Result<(), BookFault>
-        ensures { Applied (client_remove_refusals name.now self.old) (client_removed name.now self.old) self.old self.new result }
-    {
-        self.may_remove_client(alloc, name)?;
-        remove(&mut self.clients, name);
-        Ok(())
-    }
-
     pub(crate) fn check_client_add(&self, alloc: Global, name: &Name) -> Result<(), BookFault>
         ensures { Allows (client_add_refusals name.now self.now) result }
     {
@@ -46,8 +24,7 @@ impl Book {
         check_new(alloc, &self.clients, name)
     }
 
-    /// Whether a client may be removed: what `remove_client` would answer. A caller that knows more users of clients can ask first.
-    pub fn may_remove_client(&self, alloc: Global, name: &Name) -> Result<(), BookFault>
+    pub(crate) fn check_client_remove(&self, alloc: Global, name: &Name) -> Result<(), BookFault>
         ensures { Allows (client_remove_refusals name.now self.now) result }
     {
         known_place(alloc, &self.clients, name)?;

@@ -1,70 +1,21 @@
 // The policies of a book.
 ghost use Rattle.std.specs.Prelude.{◌≡◌, [], ◌∷◌, IfOk, Some, slice_index_or};
 ghost use Rattle.std.specs.Option.{option_copied};
-ghost use Rattle.policy_book.specs.Kinds.{takes_files};
 ghost use Rattle.policy_book.specs.Lists.{named};
 ghost use Rattle.policy_book.specs.Places.{StandsAt};
 ghost use Rattle.policy_book.specs.Book.{Policy as PolicyValue, policy_name};
-ghost use Rattle.policy_book.specs.Changes.{Applied, policy_added, policy_add_refusals, policy_changed, policy_change_refusals, policy_removed, policy_remove_refusals, has_lifecycle, lacks_policy};
+ghost use Rattle.policy_book.specs.Changes.{policy_add_refusals, policy_change_refusals, policy_remove_refusals, has_lifecycle, lacks_policy};
 ghost use Rattle.policy_book.specs.Refusals.{Allows};
 
+use crate::BookFault;
 use crate::book::Book;
-use crate::named::{put, remove};
 use crate::refusals::{check_new, check_room, known_place};
-use crate::{BookFault, NoMemory, Policy};
-use site_types::{Name, PolicyType, Text};
+use site_types::{Name, Text};
 use std::alloc::Global;
 
 const POLICY_LIMIT: usize = 256;
 
 impl Book {
-    /// Adds an active policy that lists no clients. Where 256 policies are there it answers `TooMany`, where one has this name
-    /// `Exists`, and where no lifecycle has that one `Unknown`.
-    pub fn add_policy(
-        &mut self,
-        alloc: Global,
-        name: &Name,
-        kind: PolicyType,
-        lifecycle: &Name,
-    ) -> Result<(), BookFault>
-        ensures { Applied (policy_add_refusals name.now lifecycle.now self.old) (policy_added name.now (takes_files kind) lifecycle.now self.old) self.old self.new result }
-    {
-        self.check_policy_add(alloc, name, lifecycle)?;
-        let policy = Policy::new(
-            alloc,
-            name.copy(alloc)?,
-            matches!(kind, PolicyType::Files),
-            lifecycle.copy(alloc)?,
-        );
-        put(&mut self.policies, policy)?;
-        Ok(())
-    }
-
-    /// Changes what is given of a policy. Where no policy has this name, or no lifecycle the one that is given, it answers `Unknown`.
-    pub fn change_policy(
-        &mut self,
-        alloc: Global,
-        name: &Name,
-        active: Option<bool>,
-        lifecycle: Option<&Name>,
-    ) -> Result<(), BookFault>
-        ensures { Applied (policy_change_refusals name.now (option_copied lifecycle.entry) self.old) (policy_changed name.now active (option_copied lifecycle.entry) self.old) self.old self.new result }
-    {
-        let at = self.check_policy_change(alloc, name, lifecycle)?;
-        let lifecycle = copied(alloc, lifecycle)?;
-        self.policies[at].set(active, lifecycle);
-        Ok(())
-    }
-
-    /// Removes a policy. Where no policy has this name it answers `Unknown`, and for `adhoc` `InUse` by the desk.
-    pub fn remove_policy(&mut self, alloc: Global, name: &Name) -> Result<(), BookFault>
-        ensures { Applied (policy_remove_refusals name.now self.old) (policy_removed name.now self.old) self.old self.new result }
-    {
-        self.may_remove_policy(alloc, name)?;
-        remove(&mut self.policies, name);
-        Ok(())
-    }
-
     // Where the policy of this name stands.
     pub(crate) fn policy_place(&self, alloc: Global, name: &Name) -> Result<usize, BookFault>
         ensures allows { Allows (lacks_policy name.now self.now ∷ []) result }
@@ -115,8 +66,7 @@ impl Book {
         Ok(at)
     }
 
-    /// Whether a policy may be removed: what `remove_policy` would answer. A caller that knows more users of policies can ask first.
-    pub fn may_remove_policy(&self, alloc: Global, name: &Name) -> Result<(), BookFault>
+    pub(crate) fn check_policy_remove(&self, alloc: Global, name: &Name) -> Result<(), BookFault>
         ensures { Allows (policy_remove_refusals name.now self.now) result }
     {
         known_place(alloc, &self.policies, name)?;
@@ -127,14 +77,5 @@ impl Book {
             });
         }
         Ok(())
-    }
-}
-
-fn copied(alloc: Global, name: Option<&Name>) -> Result<Option<Name>, NoMemory>
-    ensures { IfOk result (λ copy. copy ≡ option_copied name.entry) }
-{
-    match name {
-        Some(name) => Ok(Some(name.copy(alloc)?)),
-        None => Ok(None),
     }
 }

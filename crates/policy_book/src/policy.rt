@@ -1,12 +1,15 @@
-ghost use Rattle.std.specs.Prelude.{◌≡◌, true, not, [], ◌∷◌, ◌++◌, filter, OnOk, OnErr};
+ghost use Rattle.std.specs.Prelude.{◌≡◌, true, [], OnOk, OnErr, IfOk};
+ghost use Rattle.std.specs.Option.{option_copied};
 ghost use Rattle.std.specs.List.{list_any};
 ghost use Rattle.std.specs.Str.{bytes_eq};
-ghost use Rattle.policy_book.specs.Lists.{AreByName, has, put, without, itself};
+ghost use Rattle.policy_book.specs.Lists.{AreByName, has, itself};
 ghost use Rattle.policy_book.specs.Book.{schedule_name};
-ghost use Rattle.policy_book.specs.Changes.{policy_with};
+ghost use Rattle.policy_book.specs.Changes.{policy_with, with_schedule, without_path};
+ghost use Rattle.policy_book.specs.Staged.{policy_after};
 
-use crate::NoMemory;
 use crate::named::{find, put, remove};
+use crate::schedule::schedule_of;
+use crate::{NoMemory, PolicyChange};
 use site_types::{Copied, Name, Schedule, Text, copy_all};
 use std::alloc::Global;
 use std::marker::Model;
@@ -130,8 +133,48 @@ impl Policy {
             .any(|selection| selection.bytes() == path.bytes())
     }
 
-    // Sets what is given.
-    pub(crate) fn set(&mut self, active: Option<bool>, lifecycle: Option<Name>)
+    // Makes a change of it. Without memory the policy stays.
+    pub(crate) fn change(&mut self, alloc: Global, change: PolicyChange<'_>) -> Result<(), NoMemory>
+        ensures after { OnOk result (self.new ≡ policy_after change.entry self.old) }
+        ensures unchanged { OnErr result (self.new ≡ self.old) }
+        ensures named { self.new.name ≡ self.old.name }
+    {
+        match change {
+            PolicyChange::Set { active, lifecycle } => {
+                let lifecycle = copied(alloc, lifecycle)?;
+                self.set(active, lifecycle);
+                Ok(())
+            }
+            PolicyChange::AddClient { client } => put(&mut self.clients, client.copy(alloc)?),
+            PolicyChange::RemoveClient { client } => {
+                remove(&mut self.clients, client);
+                Ok(())
+            }
+            PolicyChange::AddPath { path } => {
+                self.selections.push(Text::new(alloc, path.bytes())?)?;
+                Ok(())
+            }
+            PolicyChange::RemovePath { path } => {
+                self.unselect(path);
+                Ok(())
+            }
+            PolicyChange::PutSchedule {
+                schedule,
+                kind,
+                frequency,
+                calendar,
+                windows,
+            } => {
+                self.put_schedule(schedule_of(alloc, schedule, kind, frequency, calendar, windows)?)
+            }
+            PolicyChange::RemoveSchedule { schedule } => {
+                remove(&mut self.schedules, schedule);
+                Ok(())
+            }
+        }
+    }
+
+    fn set(&mut self, active: Option<bool>, lifecycle: Option<Name>)
         ensures { self.new ≡ policy_with active lifecycle self.old }
     {
         if let Some(active) = active {
@@ -142,48 +185,27 @@ impl Policy {
         }
     }
 
-    // Puts a client on the list. Without memory the policy stays.
-    pub(crate) fn list(&mut self, client: Name) -> Result<(), NoMemory>
-        ensures listed { OnOk result (self.new ≡ record self.old { clients = put itself client self.old.clients }) }
-        ensures unchanged { OnErr result (self.new ≡ self.old) }
-    {
-        put(&mut self.clients, client)
-    }
-
-    // Takes a client off the list.
-    pub(crate) fn unlist(&mut self, client: &Name)
-        ensures { self.new ≡ record self.old { clients = without itself client.now self.old.clients } }
-    {
-        remove(&mut self.clients, client);
-    }
-
     // Puts a schedule at its place, in place of the one of its name. Without memory the policy stays.
     pub(crate) fn put_schedule(&mut self, schedule: Schedule) -> Result<(), NoMemory>
-        ensures put { OnOk result (self.new ≡ record self.old { schedules = put schedule_name schedule self.old.schedules }) }
+        ensures put { OnOk result (self.new ≡ with_schedule schedule self.old) }
         ensures unchanged { OnErr result (self.new ≡ self.old) }
     {
         put(&mut self.schedules, schedule)
     }
 
-    pub(crate) fn remove_schedule(&mut self, schedule: &Name)
-        ensures { self.new ≡ record self.old { schedules = without schedule_name schedule.now self.old.schedules } }
-    {
-        remove(&mut self.schedules, schedule);
-    }
-
-    // Adds a path behind the others. Without memory the policy stays.
-    pub(crate) fn select(&mut self, path: Text) -> Result<(), NoMemory>
-        ensures selected { OnOk result (self.new ≡ record self.old { selections = self.old.selections ++ path ∷ [] }) }
-        ensures unchanged { OnErr result (self.new ≡ self.old) }
-    {
-        self.selections.push(path)?;
-        Ok(())
-    }
-
-    pub(crate) fn unselect(&mut self, path: &Text)
-        ensures { self.new ≡ record self.old { selections = filter (λ s. not (bytes_eq s path.now)) self.old.selections } }
+    fn unselect(&mut self, path: &Text)
+        ensures { self.new ≡ without_path path.now self.old }
     {
         self.selections
             .retain(|selection| selection.bytes() != path.bytes());
+    }
+}
+
+fn copied(alloc: Global, name: Option<&Name>) -> Result<Option<Name>, NoMemory>
+    ensures { IfOk result (λ copy. copy ≡ option_copied name.entry) }
+{
+    match name {
+        Some(name) => Ok(Some(name.copy(alloc)?)),
+        None => Ok(None),
     }
 }

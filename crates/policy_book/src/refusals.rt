@@ -59,7 +59,7 @@ pub fn check_unlisted<T: Named>(
     ensures { Allows ((has T.name_of other.now list.now, fault.Exists (pair_text policy.now other.now)) ∷ []) result }
 {
     if find(list, other).is_some() {
-        return Err(BookFault::Exists(pair_text(alloc, policy, other)?));
+        return Err(BookFault::Exists(pair_text(alloc, policy.bytes(), other.bytes())?));
     }
     Ok(())
 }
@@ -75,17 +75,17 @@ pub fn check_listed<T: Named>(
     ensures { Allows ((not (has T.name_of other.now list.now), fault.Unknown (pair_text policy.now other.now)) ∷ []) result }
 {
     if find(list, other).is_none() {
-        return Err(BookFault::Unknown(pair_text(alloc, policy, other)?));
+        return Err(BookFault::Unknown(pair_text(alloc, policy.bytes(), other.bytes())?));
     }
     Ok(())
 }
 
-// A policy's name and another one, as they are written together.
-pub fn pair_text(alloc: Global, policy: &Name, other: &Name) -> Result<Text, NoMemory>
+/// A policy's name and another one, as they are written together.
+pub fn pair_text(alloc: Global, policy: &[u8], other: &[u8]) -> Result<Text, NoMemory>
     ensures { IfOk result (λ text. text ≡ pair_text policy.now other.now) }
 {
-    let mut text = policy.bytes().to_vec(alloc)?;
+    let mut text = policy.to_vec(alloc)?;
     text.push(b'/')?;
-    text.extend_from_slice(other.bytes())?;
+    text.extend_from_slice(other)?;
     Ok(Text::from_vec(text))
 }

@@ -4,7 +4,7 @@ ghost use Rattle.std.specs.List.{list_any};
 ghost use Rattle.std.specs.Str.{bytes_eq};
 ghost use Rattle.policy_book.specs.Places.{StandsAt};
 ghost use Rattle.policy_book.specs.Book.{policy_name};
-ghost use Rattle.policy_book.specs.Changes.{Applied, path_selected, select_refusals, path_unselected, unselect_refusals};
+ghost use Rattle.policy_book.specs.Changes.{select_refusals, unselect_refusals};
 ghost use Rattle.site_types.specs.Paths.{written};
 ghost use Rattle.policy_book.specs.Refusals.{Allows};
 ghost use Rattle.policy_book.specs.declared.fault.BookFault.TheVariants.{Exists, Unknown};
@@ -18,26 +18,6 @@ use std::alloc::Global;
 const SELECTION_LIMIT: usize = 64;
 
 impl Book {
-    /// Adds a path behind a policy's others. Where no policy has the name it answers `Unknown`, where 64 paths are there
-    /// `TooMany`, and where this one is `Exists`.
-    pub fn select(&mut self, alloc: Global, policy: &Name, path: &Text) -> Result<(), BookFault>
-        ensures { Applied (select_refusals policy.now path.now self.old) (path_selected policy.now path.now self.old) self.old self.new result }
-    {
-        let at = self.check_select(alloc, policy, path)?;
-        let selected = Text::new(alloc, path.bytes())?;
-        self.policies[at].select(selected)?;
-        Ok(())
-    }
-
-    /// Removes a path from a policy. Where no policy has the name, or it hasn't selected the path, it answers `Unknown`.
-    pub fn unselect(&mut self, alloc: Global, policy: &Name, path: &Text) -> Result<(), BookFault>
-        ensures { Applied (unselect_refusals policy.now path.now self.old) (path_unselected policy.now path.now self.old) self.old self.new result }
-    {
-        let at = self.check_unselect(alloc, policy, path)?;
-        self.policies[at].unselect(path);
-        Ok(())
-    }
-
     // Where the policy stands.
     pub(crate) fn check_select(
         &self,

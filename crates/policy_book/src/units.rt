@@ -1,13 +1,11 @@
-ghost use Rattle.std.specs.Prelude.{◌≡◌, IfOk};
-ghost use Rattle.policy_book.specs.Places.{StandsAt};
-ghost use Rattle.policy_book.specs.Book.{unit_name};
-ghost use Rattle.policy_book.specs.Changes.{Applied, unit_added, unit_add_refusals, unit_changed, unit_change_refusals, unit_with};
+// The units of a book.
+ghost use Rattle.std.specs.Prelude.{◌≡◌};
+ghost use Rattle.policy_book.specs.Changes.{unit_add_refusals, unit_of, unit_with};
 ghost use Rattle.policy_book.specs.Refusals.{Allows};
 
 use crate::BookFault;
 use crate::book::Book;
-use crate::named::put;
-use crate::refusals::{check_new, check_room, known_place};
+use crate::refusals::{check_new, check_room};
 use site_types::{Name, Unit};
 use std::alloc::Global;
 
@@ -40,56 +38,30 @@ pub struct UnitChange {
 }
 
 impl Book {
-    /// Adds a unit with the next number. Where 16 units are there it answers `TooMany`, and where one has this name `Exists`.
-    pub fn add_unit(&mut self, alloc: Global, name: &Name, unit: NewUnit) -> Result<(), BookFault>
-        ensures { Applied (unit_add_refusals name.now self.old) (unit_added name.now unit self.old) self.old self.new result }
-    {
-        self.check_unit_add(alloc, name)?;
-        let added = Unit {
-            name: name.copy(alloc)?,
-            number: self.units.len() as u8,
-            capacity: unit.capacity,
-            segment: unit.segment.unwrap_or(131_072),
-            fragment: unit.fragment.unwrap_or(4_096),
-            slots: unit.slots.unwrap_or(8_388_608),
-            high: unit.high.unwrap_or(98),
-            low: unit.low.unwrap_or(80),
-        };
-        put(&mut self.units, added)?;
-        Ok(())
-    }
-
-    /// Changes what is given of a unit. Where no unit has this name it answers `Unknown`.
-    pub fn change_unit(
-        &mut self,
-        alloc: Global,
-        name: &Name,
-        change: UnitChange,
-    ) -> Result<(), BookFault>
-        ensures { Applied (unit_change_refusals name.now self.old) (unit_changed name.now change self.old) self.old self.new result }
-    {
-        let at = self.check_unit_change(alloc, name)?;
-        apply(&mut self.units[at], change);
-        Ok(())
-    }
-
     pub(crate) fn check_unit_add(&self, alloc: Global, name: &Name) -> Result<(), BookFault>
         ensures { Allows (unit_add_refusals name.now self.now) result }
     {
         check_room(alloc, b"units", self.units.len(), UNIT_LIMIT)?;
         check_new(alloc, &self.units, name)
     }
+}
 
-    // Where the unit stands.
-    pub(crate) fn check_unit_change(&self, alloc: Global, name: &Name) -> Result<usize, BookFault>
-        ensures allows { Allows (unit_change_refusals name.now self.now) result }
-        ensures place { IfOk result (λ at. StandsAt unit_name self.now.units name.now at) }
-    {
-        known_place(alloc, &self.units, name)
+pub fn new_unit(name: Name, number: u8, unit: NewUnit) -> Unit
+    ensures { result ≡ unit_of name number unit }
+{
+    Unit {
+        name,
+        number,
+        capacity: unit.capacity,
+        segment: unit.segment.unwrap_or(131_072),
+        fragment: unit.fragment.unwrap_or(4_096),
+        slots: unit.slots.unwrap_or(8_388_608),
+        high: unit.high.unwrap_or(98),
+        low: unit.low.unwrap_or(80),
     }
 }
 
-fn apply(unit: &mut Unit, change: UnitChange)
+pub fn change_unit(unit: &mut Unit, change: UnitChange)
     ensures { unit.new ≡ unit_with change unit.old }
 {
     unit.capacity = change.capacity.unwrap_or(unit.capacity);

@@ -1,6 +1,6 @@
 -- Reading what was spelled, field by field.
 use Rattle.std.proofs.Common.{◌≡◌, ◌≢◌, inl, inr, ℕ, ◌≤◌, ◌<◌, ◌^◌, List, [], ◌∷◌, ◌++◌, length, Some, None, true, refl, sym, ◌∙◌, ap, suc, arith, append_assoc, length-append}
-use Rattle.std.specs.Prelude.{Option, option_and_then, option_map, nat_le, ◌==◌, if◌then◌else◌}
+use Rattle.std.specs.Prelude.{Option, option_and_then, option_map, nat_lt, ◌==◌, if◌then◌else◌}
 use Rattle.std.proofs.lemmas.List.{take_at, drop_at, append-nil}
 use Rattle.std.proofs.lemmas.Bool.{cases_eq}
 use Rattle.std.proofs.lemmas.Bool.Decides.{nat_tests}
@@ -18,7 +18,7 @@ use Rattle.pool_journal.specs.declared.entry.Entry.{Entry}
 use Rattle.pool_journal.specs.declared.entry.Entry.TheVariants as entry
 use Rattle.pool_journal.specs.Entries.{Record, spelled_id, spelled_names, spelled_kind_and_base, spelled_lifecycle, spelled_longs, spelled_image, spelled_settings, spelled_entry, body_of, id_made, id_field, made_under_field, taken_as_field, version_field, moments_field, image_made, settings_field, whole_image_field, without_bytes, with_bytes, record_of, AllShort, AreLines, IsFormed, IsSpellable}
 
-when_le : {A : Type 0} (a b : ℕ) (x y : A) → a ≤ b → (if nat_le a b then x else y) ≡ x
+when_le : {A : Type 0} (a b : ℕ) (x y : A) → a ≤ b → (if nat_lt b a then y else x) ≡ x
 when_le a b x y le = grind (arith, nat_tests)
 
 pub short-spelled : (n : ℕ) (rest : List ℕ) → n < 2 ^ 16 → short_field (to_be_bytes w16 n ++ rest) ≡ Some (n, rest)

@@ -1,6 +1,6 @@
 -- What a record's body says last are its bytes: each field takes some from the front.
 use Rattle.std.proofs.Common.{◌≡◌, ℕ, ◌≤◌, Bool, true, false, List, [], ◌∷◌, ◌++◌, length, take, drop, Some, None, refl, sym, ◌∙◌, ap, arith, append_assoc, length-append, take-append-drop}
-use Rattle.std.specs.Prelude.{Option, option_and_then, option_map, nat_le, ◌==◌, if◌then◌else◌}
+use Rattle.std.specs.Prelude.{Option, option_and_then, option_map, nat_lt, ◌==◌, if◌then◌else◌}
 use Rattle.std.proofs.lemmas.List.{append-nil}
 use Rattle.std.proofs.lemmas.Option.{option_and_then_some, same_Some, none-some}
 use Rattle.site_types.specs.Names.{is_name}
@@ -36,6 +36,10 @@ passed false o y is = absurd (none-some y is)
 passed_one : {A : Type 0} (b : Bool) (x y : A) → (if b then Some x else None) ≡ Some y → x ≡ y
 passed_one b x y is = same_Some x y (passed b (Some x) y is)
 
+passed_else : {A : Type 0} (b : Bool) (x y : A) → (if b then None else Some x) ≡ Some y → x ≡ y
+passed_else true x y is = absurd (none-some y is)
+passed_else false x y is = same_Some x y is
+
 -- what a field leaves ends what it was read from
 abbrev Takes : {A : Type 0} → Field A → Type 0
 Takes {A = A} f = (bytes : List ℕ) (a : A) (rest : List ℕ) → f bytes ≡ Some (a, rest) → Ends bytes rest
@@ -48,15 +52,15 @@ byte_takes [] a rest is = absurd (none-some _ is)
 byte_takes (b ∷ bytes) a rest is = record { front = b ∷ []; is = ap (λ (l : List ℕ). b ∷ l) (ap (λ (p : ℕ × List ℕ). p.1) (same_Some _ _ is)) }
 
 short_takes : Takes short_field
-short_takes bytes a rest is = dropped 2 bytes rest (ap (λ (p : ℕ × List ℕ). p.1) (passed_one (nat_le 2 (length bytes)) _ _ is))
+short_takes bytes a rest is = dropped 2 bytes rest (ap (λ (p : ℕ × List ℕ). p.1) (passed_else (nat_lt (length bytes) 2) _ _ is))
 
 long_takes : Takes long_field
-long_takes bytes a rest is = dropped 8 bytes rest (ap (λ (p : ℕ × List ℕ). p.1) (passed_one (nat_le 8 (length bytes)) _ _ is))
+long_takes bytes a rest is = dropped 8 bytes rest (ap (λ (p : ℕ × List ℕ). p.1) (passed_else (nat_lt (length bytes) 8) _ _ is))
 
 string_takes : Takes string_field
 string_takes bytes a rest is =
     step short_field behind_length bytes (a, rest) rest short_takes is
-    (λ p i. dropped p.0 p.1 rest (ap (λ (q : List ℕ × List ℕ). q.1) (passed_one (nat_le p.0 (length p.1)) _ _ i)))
+    (λ p i. dropped p.0 p.1 rest (ap (λ (q : List ℕ × List ℕ). q.1) (passed_else (nat_lt (length p.1) p.0) _ _ i)))
 
 name_takes : Takes name_field
 name_takes bytes a rest is =

@@ -1,9 +1,10 @@
 -- The fields of a record. Numbers are big-endian, and a string is a length of two bytes and its bytes.
-use Rattle.std.specs.Prelude.{◌≡◌, ℕ, zero, suc, nat_le, ◌==◌, if◌then◌else◌, List, [], ◌∷◌, ◌++◌, length, take, drop, Option, Some, None, option_map, option_and_then, Result, Ok, Err}
-use Rattle.std.specs.Borrow.{Bor}
+use Rattle.std.specs.Prelude.{◌≡◌, ℕ, zero, suc, ◌==◌, if◌then◌else◌, List, [], ◌∷◌, ◌++◌, length, Option, Some, None, option_map, option_and_then, Result, Ok, Err}
 use Rattle.std.specs.List.{flat_map}
-use Rattle.std.specs.Int.{w16, w32, w64, to_be_bytes, from_be_bytes}
+use Rattle.std.specs.Int.{w16, w32, w64, to_be_bytes}
 use Rattle.site_types.specs.Names.{is_name}
+use Rattle.site_types.specs.Fields.{number_field, bytes_field}
+pub use Rattle.site_types.specs.Fields.{Field, byte_field}
 use Rattle.site_types.specs.declared.image.Kind.{Kind}
 use Rattle.site_types.specs.declared.image.Kind.TheVariants.{Full, Differential, Cumulative}
 use Rattle.site_types.specs.declared.image.Base.{Base}
@@ -28,25 +29,18 @@ abbrev pub base_code : Base → ℕ
 base_code base.None = 0
 base_code (base.Time time) = time
 
--- what stands at the front of some bytes, and what stands behind it
-abbrev pub Field : Type 0 → Type 0
-Field A = List ℕ → Option (A × List ℕ)
-
-abbrev pub byte_field : Field ℕ
-byte_field [] = None
-byte_field (byte ∷ rest) = Some (byte, rest)
-
+-- how each field is read
 abbrev pub short_field : Field ℕ
-short_field bytes = if nat_le 2 (length bytes) then Some (from_be_bytes w16 (take 2 bytes), drop 2 bytes) else None
+short_field = number_field w16
 
 abbrev pub count_field : Field ℕ
-count_field bytes = if nat_le 4 (length bytes) then Some (from_be_bytes w32 (take 4 bytes), drop 4 bytes) else None
+count_field = number_field w32
 
 abbrev pub long_field : Field ℕ
-long_field bytes = if nat_le 8 (length bytes) then Some (from_be_bytes w64 (take 8 bytes), drop 8 bytes) else None
+long_field = number_field w64
 
 abbrev pub behind_length : ℕ × List ℕ → Option (List ℕ × List ℕ)
-behind_length (count, rest) = if nat_le count (length rest) then Some (take count rest, drop count rest) else None
+behind_length (count, rest) = bytes_field count rest
 
 abbrev pub string_field : Field (List ℕ)
 string_field bytes = option_and_then behind_length (short_field bytes)
@@ -86,8 +80,3 @@ abbrev pub IsField : {A : Type 0} → Result A FieldFault → Option (A × List 
 IsField (Ok value) read rest = read ≡ Some (value, rest)
 IsField (Err Broken) read rest = read ≡ None
 IsField (Err NoMemory) read rest = Unit {0}
-
--- a result with the bytes that its reference points to
-abbrev pub borrowed : Result (Bor (List ℕ)) FieldFault → Result (List ℕ) FieldFault
-borrowed (Ok value) = Ok value.now
-borrowed (Err fault) = Err fault

@@ -1,10 +1,13 @@
 // What a record says.
+//
+// The lines of a settings record may be any: whether each is a request of the site is tested where it is made fit, and both are
+// answered alike. So the journal need not know the requests, and a line is read once.
 ghost use Rattle.std.specs.Prelude.{◌≡◌, IfOk, Ok};
 ghost use Rattle.pool_journal.specs.Fields.{IsField};
 ghost use Rattle.pool_journal.specs.Entries.{id_field, made_under_field, taken_as_field, version_field, moments_field, settings_field, whole_image_field, IsEntry};
 
-use crate::fields::{FieldFault, Fields};
-use site_types::{BackupId, Base, Kind, ListOf, Name, Text};
+use crate::fields::{FieldFault, read_base, read_kind, read_name, read_strings};
+use site_types::{BackupId, Base, Fields, Kind, ListOf, Name, Text};
 use std::alloc::Global;
 
 /// What was recorded, in the order of the kinds' numbers.
@@ -34,7 +37,7 @@ pub struct WholeImage {
 fn read_id(fields: &mut Fields, alloc: Global) -> Result<BackupId, FieldFault>
     ensures { IsField result (id_field fields.old) fields.new }
 {
-    let client = fields.name(alloc)?;
+    let client = read_name(fields, alloc)?;
     let time = fields.long()?;
     Ok(BackupId { client, time })
 }
@@ -42,23 +45,23 @@ fn read_id(fields: &mut Fields, alloc: Global) -> Result<BackupId, FieldFault>
 fn read_policy_and_schedule(fields: &mut Fields, alloc: Global) -> Result<(Name, Name), FieldFault>
     ensures { IsField result (made_under_field fields.old) fields.new }
 {
-    let policy = fields.name(alloc)?;
-    let schedule = fields.name(alloc)?;
+    let policy = read_name(fields, alloc)?;
+    let schedule = read_name(fields, alloc)?;
     Ok((policy, schedule))
 }
 
 fn read_kind_and_base(fields: &mut Fields) -> Result<(Kind, Base), FieldFault>
     ensures { IsField result (taken_as_field fields.old) fields.new }
 {
-    let kind = fields.kind()?;
-    let base = fields.base()?;
+    let kind = read_kind(fields)?;
+    let base = read_base(fields)?;
     Ok((kind, base))
 }
 
 fn read_lifecycle(fields: &mut Fields, alloc: Global) -> Result<(Name, u16), FieldFault>
     ensures { IsField result (version_field fields.old) fields.new }
 {
-    let lifecycle = fields.name(alloc)?;
+    let lifecycle = read_name(fields, alloc)?;
     let version = fields.short()?;
     Ok((lifecycle, version))
 }
@@ -75,7 +78,7 @@ fn read_settings(fields: &mut Fields, alloc: Global) -> Result<ListOf<Text>, Fie
     ensures { IsField result (settings_field fields.old) fields.new }
 {
     let count = fields.count()?;
-    fields.strings(alloc, count)
+    read_strings(fields, alloc, count)
 }
 
 // The fields of a whole image, behind the kind and before its bytes.

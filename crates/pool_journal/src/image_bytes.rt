@@ -1,4 +1,4 @@
-// The bytes of an image, read back.
+// The bytes of an image, read back at each restore: nothing keeps them in memory after the opening.
 ghost use Rattle.std.specs.Prelude.{◌≡◌, List, length, Contains, IfOk, IfErr, IsErrOf};
 ghost use Rattle.vault_disk.specs.Disk.{IsSame};
 ghost use Rattle.vault_disk.specs.Steps.{LookedAround, Rose};
@@ -7,9 +7,9 @@ ghost use Rattle.pool_journal.specs.Stops.{AtRest, IsOfAppend};
 
 use crate::fault::JournalFault;
 use crate::journal::Journal;
-use site_types::{NoMemory, Text};
+use site_types::Text;
 use std::alloc::Global;
-use vault_disk::{Vault, read_fully};
+use vault_disk::{Vault, read_fully, zeros};
 
 impl Journal {
     /// The bytes of a whole image, which begin at this offset of the journal's file.
@@ -33,10 +33,4 @@ impl Journal {
         bytes.truncate(count);
         Ok(Text::from_vec(bytes))
     }
-}
-
-fn zeros(alloc: Global, count: usize) -> Result<Vec<u8>, NoMemory>
-    ensures { IfOk result (λ v. length v.items ≡ count) }
-{
-    vec![in alloc; 0u8; count]
 }

@@ -1,3 +1,9 @@
+// Adding a record to a journal.
+//
+// A record is staged and then written. `stage` takes all of its memory and `write` none, and between them the desk changes what
+// it knows, which may find no memory too: so nothing but the disk fails once it has changed. The image's bytes are taken apart
+// from the entry, since an entry that owned them would need a copy of up to 67,108,864 bytes. A record past the limits of its
+// numbers, a line of 65,536 bytes or a record of 4,294,967,296, can't be staged: the caller answers that memory ran out.
 ghost use Rattle.std.specs.Prelude.{◌≡◌, ◌+◌, List, length, IfOk, OnOk, OnErr, IfErr, IsErrOf};
 ghost use Rattle.vault_disk.specs.Disk.{IsSame};
 ghost use Rattle.vault_disk.specs.Steps.{Rose};

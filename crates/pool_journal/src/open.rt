@@ -1,4 +1,9 @@
 // Opening a journal.
+//
+// The opening of a new vault writes its header, and no other opening writes. A file of exactly the header and one closed gate
+// is begun anew too, as each of at most 17 bytes is: it needs no case of its own, and a stop in it leaves at most 17 bytes
+// again. The file is read whole, which is the shortest proof; the contract speaks of the file's bytes alone, so a reader that
+// takes them piece by piece would meet it too.
 ghost use Rattle.std.specs.Prelude.{◌≡◌, ◌≤◌, ◌<◌, length, nat_eq, false, IfOk, IfErr, IsErrOf, MatchResult};
 ghost use Rattle.std.specs.List.{starts_with, common_prefix_len};
 ghost use Rattle.vault_disk.specs.Disk.{IsSame};

@@ -13,7 +13,7 @@ pub const OPEN: u8 = 165;
 
 pub const HEADER: [u8; 16] = *b"NBDESK VAULT 001";
 
-/// An entry, with the offsets of its record's gate and of its image's bytes, and how many bytes those are.
+/// An entry without its image's bytes, which are read back where they are wanted: with the offsets of its record's gate and of its image's bytes, and how many bytes those are.
 #[derive(Debug, Drop)]
 pub struct Placed {
     /// The offset of the record's gate.

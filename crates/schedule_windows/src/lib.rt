@@ -1,11 +1,11 @@
 //! When jobs may start and when schedules are due: zones, weekly windows, calendars, and the next opening.
+//!
+//! `Zone::civil` and `next_open` never fail, and a clause of each says so: they take an allocator that they don't use, as their callers pass one to every such call.
 #![tactic(auto)]
 
 mod calendar;
 mod civil;
 mod next;
-#[cfg(test)]
-mod plain;
 mod rule;
 mod schedule;
 #[cfg(test)]

@@ -1,3 +1,5 @@
+// The next opening is looked for in stretches in which the zone's offset stays the same. A stretch counts only where a test at
+// run time shows that it lies in one year and before the rule's next jump, so the guess of its length needs no trust.
 ghost use Rattle.std.specs.Prelude.{◌≡◌, ◌<◌, ◌≤◌, ◌+◌, ◌+ℤ◌, ℕ, pos, true, false, IsOk, IfOk};
 ghost use Rattle.jiff_core.specs.Calendar.{IsWithin};
 ghost use Rattle.schedule_windows.specs.Opens.{IsNextOpenIfAny, is_open_after, is_span_open};

@@ -1,3 +1,4 @@
+// A rule is read with `jiff_tz::posix::TimeZone::parse`, which is what `jiff` calls for it, with the same contract.
 ghost use Rattle.std.specs.Prelude.{◌≡◌, ◌<◌, ◌≤◌, ℕ, IsOk, IsSome, IfOk, None, option_map, MatchOption};
 ghost use Rattle.jiff_core.specs.Calendar.{IsWithin};
 ghost use Rattle.jiff_tz.specs.PosixReader.{read_whole};

@@ -1,4 +1,6 @@
 //! The text of a session: cut into the requests of its lines, with their payloads, while it is read from a source.
+//!
+//! How a text is cut has to do with no vault and no desk, so it stands in a crate of its own: its definitions are read by themselves, and its tests need only a source.
 #![tactic(auto)]
 
 mod ahead;

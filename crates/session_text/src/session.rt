@@ -1,4 +1,7 @@
 // The requests of a session, one after another.
+//
+// The last request without its line feed ends the session without another read. Only an end of the source shows that such a
+// line is whole; a terminal, or a source that can be read again behind its end, would else be waited for once more.
 ghost use Rattle.std.specs.Prelude.{◌≡◌, ◌<◌, ◌≤◌, Some, None, [], ◌++◌, length, take, IfOk, vec_capacity};
 ghost use Rattle.vault_disk.specs.Input.{IsSameInput};
 ghost use Rattle.vault_disk.specs.Steps.{Rose};
@@ -14,7 +17,7 @@ use crate::seek::{Sought, seek_line};
 use site_types::{ListOf, Text};
 use std::alloc::Global;
 use std::marker::Model;
-use vault_disk::Source;
+use vault_disk::{Source, zeros};
 
 const BLOCK: usize = 65_536;
 
@@ -173,12 +176,6 @@ fn take_next<S: Source>(
         Sought::Failed => Next::Failed,
         Sought::NoMemory => Next::NoMemory,
     }
-}
-
-fn zeros(alloc: Global, count: usize) -> Result<Vec<u8>, NoMemory>
-    ensures { IfOk result (λ v. length v.items ≡ count) }
-{
-    vec![in alloc; 0u8; count]
 }
 
 /// The text of a session, as far as it was read ahead. Contracts see the bytes that were read and not handed on yet.

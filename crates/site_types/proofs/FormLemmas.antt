@@ -1,17 +1,13 @@
 -- The words of a form in the order of its keys: they give the same values as the words that were read, and none of them is bad.
 use Rattle.std.proofs.Common.{◌≡◌, ℕ, ◌+◌, List, [], ◌∷◌, ◌++◌, Bool, true, false, not, ◌&&◌, ◌||◌, if◌then◌else◌, Option, Some, None, unwrap_or, refl, sym, ap, ◌∙◌}
-use Rattle.std.specs.List.{list_all, list_any}
+use Rattle.std.specs.List.{list_all}
 use Rattle.std.specs.Str.{bytes_eq}
 use Rattle.std.proofs.lemmas.Bool.{and_from, or_left, or_right, or_from, not_from_false, not-true, false_from_ne_true, true≢false, false≢true}
 use Rattle.std.proofs.lemmas.List.Folds.{list_any-append}
 use Rattle.std.proofs.lemmas.Slice.Eq.{bytes_eq-Decides}
-use Rattle.site_types.specs.Keys.{Key, is_word, has_equals, key_of, value_of, allows, has_key, is_good, first_bad, value_among}
+use Rattle.site_types.specs.Keys.{Key, is_word, has_equals, key_of, value_of, allows, has_key, is_good, first_bad, has_name, value_among}
 use Rattle.site_types.specs.Lines.{Field, words_with, word_with}
 use Rattle.site_types.proofs.WordLemmas.{is_key, key_of-word_with, value_of-word_with, has_equals-word_with, is_word-word_with, is_word-value_of}
-
--- one of these keys has this name
-abbrev pub has_name : List ℕ → List Key → Bool
-has_name name keys = list_any (λ k. bytes_eq k.name name) keys
 
 -- keys of different names, each of which may stand before an equals sign
 abbrev pub is_table : List Key → Bool
@@ -102,15 +98,12 @@ table_parts false b c is = absurd (false≢true is)
 parts_of : (k : Key) (keys : List Key) → is_table (k ∷ keys) ≡ true → (is_key k.name ≡ true) × (not (has_name k.name keys) ≡ true) × (is_table keys ≡ true)
 parts_of k keys table = table_parts (is_key k.name) (not (has_name k.name keys)) (is_table keys) table
 
-value_ordered : (name : List ℕ) (keys : List Key) (words : List (List ℕ)) → is_table keys ≡ true → value_among name (ordered keys words) ≡ (if has_name name keys then value_among name words else None)
+-- the words in the order of the keys give each of them the same value
+pub value_ordered : (name : List ℕ) (keys : List Key) (words : List (List ℕ)) → is_table keys ≡ true → value_among name (ordered keys words) ≡ (if has_name name keys then value_among name words else None)
 value_ordered name [] words table = refl
 value_ordered name (k ∷ keys) words table =
     let parts = parts_of k keys table in
     given_by name k keys words (value_among k.name words) refl parts.0 (value_ordered name keys words parts.2)
-
--- the words in the order of the keys give each of them the same value
-pub same_values : (keys : List Key) (words : List (List ℕ)) → is_table keys ≡ true → (name : List ℕ) → has_name name keys ≡ true → value_among name (ordered keys words) ≡ value_among name words
-same_values keys words table name has = value_ordered name keys words table ∙ (λ i. if has i then value_among name words else None)
 
 -- no earlier word gives one of these keys a value
 abbrev AreFresh : List Key → List (List ℕ) → Type 0

@@ -17,10 +17,6 @@ pub mod WordLemmas
 pub mod FormLemmas
 pub mod RereadLemmas
 pub mod KeptLemmas
-pub mod UnitForms
-pub mod NameForms
-pub mod PolicyForms
-pub mod DeskForms
 pub mod Rereading
 pub mod JoinedTextLemmas
 pub mod LineLemmas

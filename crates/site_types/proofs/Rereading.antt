@@ -1,77 +1,119 @@
--- A request that was read is read again from its line.
-use Rattle.std.proofs.Common.{◌≡◌, ℕ, List, [], ◌∷◌, Bool, true, false, if◌then◌else◌, Result, Ok, Err, codes}
-use Rattle.std.specs.Str.{bytes_eq}
+-- What the values of each form make is written as that form with these values. So a request that was read is read again from its line.
+use Rattle.std.proofs.Common.{◌≡◌, ℕ, List, [], ◌∷◌, Bool, true, false, nat_lt, Option, Some, None, option_map, unwrap_or, if◌then◌else◌, Result, Ok, Err, codes, refl, sym, ap, ◌∙◌}
+use Rattle.std.specs.Prelude.{IfOk}
+use Rattle.std.specs.Option.{option_and_then}
+use Rattle.std.specs.Fmt.{decimal}
+use Rattle.site_types.specs.CalendarTexts.{calendar_text}
+use Rattle.site_types.specs.Forms.{Scheduling, are_marks, is_one, pair_of, policy_add_of, schedule_keys, schedule_made, schedule_of, schedule_texts, spelled, unit_add_of, unit_change_of}
+use Rattle.site_types.specs.Ids.{id_text}
+use Rattle.site_types.specs.Keys.{Given, name_of}
 use Rattle.site_types.specs.Lines.{IsFormed}
-use Rattle.site_types.specs.Requests.{read_unit_add, read_unit_change, read_named, read_policy_add, read_policy_change, read_pair, read_selection, read_schedule, read_zone_set, read_load, read_backup, read_restore, read_unit, read_client, read_policy, read_schedules, read_zone, read_words}
+use Rattle.site_types.specs.Requests.{IsReading, read_words}
+use Rattle.site_types.specs.Numbers.{number_between}
+use Rattle.site_types.specs.Paths.{written}
+use Rattle.site_types.specs.Values.{kind_text, type_text, start_of, start_text, yes_or_no, yes_or_no_text}
+use Rattle.site_types.specs.WindowTexts.{windows_text}
+use Rattle.site_types.specs.ZoneWords.{rule_of, offset_of}
+use Rattle.site_types.specs.declared.calendar.CalendarItem.{CalendarItem}
+use Rattle.site_types.specs.declared.forms.FormName.{FormName}
+use Rattle.site_types.specs.declared.forms.FormName.TheVariants as form
+use Rattle.site_types.specs.declared.image.Kind.{Kind}
 use Rattle.site_types.specs.declared.request.Request.{Request}
-use Rattle.site_types.specs.declared.request.Request.TheVariants.{ClientAdd, ClientRemove, PolicyRemove, PolicyClientAdd, PolicyClientRemove, PolicySelect, PolicyUnselect, ScheduleAdd, ScheduleChange, ScheduleRemove}
-use Rattle.site_types.proofs.RereadLemmas.{no_error, form_reread}
-use Rattle.site_types.proofs.UnitForms.{unit_add_form, unit_change_form}
-use Rattle.site_types.proofs.NameForms.{client_add_form, client_remove_form, policy_remove_form, policy_client_add_form, policy_client_remove_form, schedule_remove_form, policy_select_form, policy_unselect_form}
-use Rattle.site_types.proofs.PolicyForms.{policy_add_form, policy_change_form, schedule_add_form, schedule_change_form}
-use Rattle.site_types.proofs.DeskForms.{zone_set_form, load_form, backup_form, restore_form}
+use Rattle.site_types.specs.declared.request.Request.TheVariants as request
+use Rattle.site_types.specs.declared.request.WordFault.{WordFault}
+use Rattle.site_types.specs.declared.schedule.PolicyType.{PolicyType}
+use Rattle.site_types.specs.declared.window.Windows.{Windows}
+use Rattle.site_types.proofs.FormLemmas.{same_value}
+use Rattle.site_types.proofs.KeptLemmas.{name_kept, number_kept, id_kept, kind_kept, type_kept, yes_or_no_kept, start_kept, path_kept, rule_kept, offset_kept, windows_kept, calendar_kept}
+use Rattle.site_types.proofs.RereadLemmas.{Fit, Spells, texts_of, words_reread}
 
--- what this reading gives is formed
-abbrev IsReread : Result Request ℕ → Type 0
-IsReread read = (r : Request) → read ≡ Ok r → IsFormed r
+-- what a request is written as
+abbrev Written : Type 0
+Written = FormName × List (Option (List ℕ))
 
-either : (b : Bool) (first second : Result Request ℕ) → IsReread first → IsReread second → IsReread (if b then first else second)
-either true first second one two = one
-either false first second one two = two
+-- what is made where a test passes
+pub chosen : (b : Bool) (request r : Request) → (if b then Some request else None) ≡ Some r → request ≡ r
+chosen true request r is = same_value request r is
+chosen false request r is = absurd (cc is)
 
-refused : (index : ℕ) → IsReread (Err index)
-refused index r is = no_error index r is
+-- Forms of one value that is wanted, and of two.
 
-unit_reread : (words : List (List ℕ)) → IsReread (read_unit words)
-unit_reread [] = refused 1
-unit_reread (action ∷ words) =
-    either (bytes_eq action (codes "add")) (read_unit_add words) _ (form_reread unit_add_form words)
-    (either (bytes_eq action (codes "change")) (read_unit_change words) (Err 1) (form_reread unit_change_form words)
-    (refused 1))
+one_spelled : {A : Type 0} (makes : A → Request) (written : Option A → Written) → ((x : A) → spelled (makes x) ≡ written (Some x)) → (o : Option A) (r : Request) → option_map makes o ≡ Some r → spelled r ≡ written o
+one_spelled makes written so None r is = absurd (cc is)
+one_spelled makes written so (Some x) r is = ap spelled (sym (same_value (makes x) r is)) ∙ so x
 
-client_reread : (words : List (List ℕ)) → IsReread (read_client words)
-client_reread [] = refused 1
-client_reread (action ∷ words) =
-    either (bytes_eq action (codes "add")) (read_named ClientAdd (codes "name") words) _ (form_reread client_add_form words)
-    (either (bytes_eq action (codes "remove")) (read_named ClientRemove (codes "name") words) (Err 1) (form_reread client_remove_form words)
-    (refused 1))
+two_spelled : {A B : Type 0} (makes : A → B → Request) (written : Option A → Option B → Written) → ((x : A) (y : B) → spelled (makes x y) ≡ written (Some x) (Some y)) → (o : Option A) (p : Option B) (r : Request) → pair_of makes o p ≡ Some r → spelled r ≡ written o p
+two_spelled makes written so None p r is = absurd (cc is)
+two_spelled makes written so (Some x) None r is = absurd (cc is)
+two_spelled makes written so (Some x) (Some y) r is = ap spelled (sym (same_value (makes x y) r is)) ∙ so x y
 
-policy_reread : (words : List (List ℕ)) → IsReread (read_policy words)
-policy_reread [] = refused 1
-policy_reread (action ∷ words) =
-    either (bytes_eq action (codes "add")) (read_policy_add words) _ (form_reread policy_add_form words)
-    (either (bytes_eq action (codes "change")) (read_policy_change words) _ (form_reread policy_change_form words)
-    (either (bytes_eq action (codes "remove")) (read_named PolicyRemove (codes "policy") words) _ (form_reread policy_remove_form words)
-    (either (bytes_eq action (codes "client-add")) (read_pair PolicyClientAdd (codes "policy") (codes "client") words) _ (form_reread policy_client_add_form words)
-    (either (bytes_eq action (codes "client-remove")) (read_pair PolicyClientRemove (codes "policy") (codes "client") words) _ (form_reread policy_client_remove_form words)
-    (either (bytes_eq action (codes "select")) (read_selection PolicySelect words) _ (form_reread policy_select_form words)
-    (either (bytes_eq action (codes "unselect")) (read_selection PolicyUnselect words) (Err 1) (form_reread policy_unselect_form words)
-    (refused 1)))))))
+-- Forms of units, policies and schedules.
 
-schedules_reread : (words : List (List ℕ)) → IsReread (read_schedules words)
-schedules_reread [] = refused 1
-schedules_reread (action ∷ words) =
-    either (bytes_eq action (codes "add")) (read_schedule ScheduleAdd words) _ (form_reread schedule_add_form words)
-    (either (bytes_eq action (codes "change")) (read_schedule ScheduleChange words) _ (form_reread schedule_change_form words)
-    (either (bytes_eq action (codes "remove")) (read_pair ScheduleRemove (codes "policy") (codes "schedule") words) (Err 1) (form_reread schedule_remove_form words)
-    (refused 1)))
+unit_add_spelled : (name : Option (List ℕ)) (capacity segment fragment slots high low : Option ℕ) (r : Request) → unit_add_of name capacity segment fragment slots high low ≡ Some r
+    → spelled r ≡ (form.UnitAdd, name ∷ option_map decimal capacity ∷ option_map decimal segment ∷ option_map decimal fragment ∷ option_map decimal slots ∷ option_map decimal high ∷ option_map decimal low ∷ [])
+unit_add_spelled None capacity segment fragment slots high low r is = absurd (cc is)
+unit_add_spelled (Some name) None segment fragment slots high low r is = absurd (cc is)
+unit_add_spelled (Some name) (Some capacity) segment fragment slots high low r is = ap spelled (sym (chosen (nat_lt (unwrap_or low 80) (unwrap_or high 98)) (request.UnitAdd name capacity segment fragment slots high low) r is))
 
-zone_reread : (words : List (List ℕ)) → IsReread (read_zone words)
-zone_reread [] = refused 1
-zone_reread (action ∷ words) = either (bytes_eq action (codes "set")) (read_zone_set words) (Err 1) (form_reread zone_set_form words) (refused 1)
+unit_change_spelled : (name : Option (List ℕ)) (capacity slots high low : Option ℕ) (r : Request) → unit_change_of name capacity slots high low ≡ Some r
+    → spelled r ≡ (form.UnitChange, name ∷ option_map decimal capacity ∷ option_map decimal slots ∷ option_map decimal high ∷ option_map decimal low ∷ [])
+unit_change_spelled None capacity slots high low r is = absurd (cc is)
+unit_change_spelled (Some name) capacity slots high low r is = ap spelled (sym (chosen (are_marks high low) (request.UnitChange name capacity slots high low) r is))
 
-words_reread : (words : List (List ℕ)) → IsReread (read_words words)
-words_reread [] = refused 0
-words_reread (form ∷ words) =
-    either (bytes_eq form (codes "unit")) (read_unit words) _ (unit_reread words)
-    (either (bytes_eq form (codes "client")) (read_client words) _ (client_reread words)
-    (either (bytes_eq form (codes "bppolicynew")) (read_policy words) _ (policy_reread words)
-    (either (bytes_eq form (codes "bpplsched")) (read_schedules words) _ (schedules_reread words)
-    (either (bytes_eq form (codes "bpzone")) (read_zone words) _ (zone_reread words)
-    (either (bytes_eq form (codes "bpload")) (read_load words) _ (form_reread load_form words)
-    (either (bytes_eq form (codes "bpbackup")) (read_backup words) _ (form_reread backup_form words)
-    (either (bytes_eq form (codes "bprestore")) (read_restore words) (Err 0) (form_reread restore_form words)
-    (refused 0))))))))
+policy_add_spelled : (policy : Option (List ℕ)) (policy_type : Option PolicyType) (lifecycle : Option (List ℕ)) (r : Request) → policy_add_of policy policy_type lifecycle ≡ Some r → spelled r ≡ (form.PolicyAdd, policy ∷ option_map type_text policy_type ∷ lifecycle ∷ [])
+policy_add_spelled None policy_type lifecycle r is = absurd (cc is)
+policy_add_spelled (Some policy) None lifecycle r is = absurd (cc is)
+policy_add_spelled (Some policy) (Some policy_type) None r is = absurd (cc is)
+policy_add_spelled (Some policy) (Some policy_type) (Some lifecycle) r is = ap spelled (sym (same_value (request.PolicyAdd policy policy_type lifecycle) r is))
+
+module _ (makes : Scheduling) (name : FormName) (so : (policy schedule : List ℕ) (kind : Kind) (frequency : Option ℕ) (calendar : Option (List CalendarItem)) (windows : Windows) → spelled (makes policy schedule kind frequency calendar windows) ≡ (name, schedule_texts policy schedule kind frequency calendar windows)) where
+  scheduled : (policy schedule : Option (List ℕ)) (kind : Option Kind) (frequency : Option ℕ) (calendar : Option (List CalendarItem)) (windows : Option Windows) (r : Request) → schedule_of makes policy schedule kind frequency calendar windows ≡ Some r
+      → spelled r ≡ (name, policy ∷ schedule ∷ option_map kind_text kind ∷ option_map decimal frequency ∷ option_map calendar_text calendar ∷ option_map windows_text windows ∷ [])
+  scheduled None schedule kind frequency calendar windows r is = absurd (cc is)
+  scheduled (Some policy) None kind frequency calendar windows r is = absurd (cc is)
+  scheduled (Some policy) (Some schedule) None frequency calendar windows r is = absurd (cc is)
+  scheduled (Some policy) (Some schedule) (Some kind) frequency calendar None r is = absurd (cc is)
+  scheduled (Some policy) (Some schedule) (Some kind) frequency calendar (Some windows) r is =
+      ap spelled (sym (chosen (is_one frequency calendar) (makes policy schedule kind frequency calendar windows) r is)) ∙ so policy schedule kind frequency calendar windows
+
+  schedule_spells : (v : Given) (r : Request) → Fit schedule_keys v → schedule_made makes v ≡ Some r → spelled r ≡ (name, texts_of schedule_keys v)
+  schedule_spells v r fit is = scheduled _ _ _ _ _ _ r is ∙ (λ i.
+      (name, name_kept _ (fit (codes "policy")) i ∷ name_kept _ (fit (codes "schedule")) i ∷ kind_kept _ (fit (codes "kind")) i ∷ number_kept 1 3153600000 _ (fit (codes "frequency")) i ∷ calendar_kept _ (fit (codes "calendar")) i ∷ windows_kept _ (fit (codes "windows")) i ∷ []))
+
+-- One fact a row.
+spells : (name : FormName) → Spells name
+spells form.UnitAdd v r fit is = unit_add_spelled _ _ _ _ _ _ _ r is ∙ (λ i.
+    (form.UnitAdd, name_kept _ (fit (codes "name")) i ∷ number_kept 1 1125899906842624 _ (fit (codes "capacity")) i ∷ number_kept 16 131072 _ (fit (codes "segment")) i ∷ number_kept 1 1048576 _ (fit (codes "fragment")) i ∷ number_kept 1 16777216 _ (fit (codes "slots")) i ∷ number_kept 1 100 _ (fit (codes "high")) i ∷ number_kept 0 99 _ (fit (codes "low")) i ∷ []))
+spells form.UnitChange v r fit is = unit_change_spelled _ _ _ _ _ r is ∙ (λ i.
+    (form.UnitChange, name_kept _ (fit (codes "name")) i ∷ number_kept 1 1125899906842624 _ (fit (codes "capacity")) i ∷ number_kept 1 16777216 _ (fit (codes "slots")) i ∷ number_kept 1 100 _ (fit (codes "high")) i ∷ number_kept 0 99 _ (fit (codes "low")) i ∷ []))
+spells form.ClientAdd v r fit is = one_spelled request.ClientAdd (λ name. (form.ClientAdd, name ∷ [])) (λ name. refl) _ r is ∙ (λ i. (form.ClientAdd, name_kept _ (fit (codes "name")) i ∷ []))
+spells form.ClientRemove v r fit is = one_spelled request.ClientRemove (λ name. (form.ClientRemove, name ∷ [])) (λ name. refl) _ r is ∙ (λ i. (form.ClientRemove, name_kept _ (fit (codes "name")) i ∷ []))
+spells form.PolicyAdd v r fit is = policy_add_spelled _ _ _ r is ∙ (λ i. (form.PolicyAdd, name_kept _ (fit (codes "policy")) i ∷ type_kept _ (fit (codes "type")) i ∷ name_kept _ (fit (codes "lifecycle")) i ∷ []))
+spells form.PolicyChange v r fit is =
+    one_spelled (λ policy. request.PolicyChange policy (option_and_then yes_or_no (v (codes "active"))) (option_and_then name_of (v (codes "lifecycle"))))
+    (λ policy. (form.PolicyChange, policy ∷ option_map yes_or_no_text (option_and_then yes_or_no (v (codes "active"))) ∷ option_and_then name_of (v (codes "lifecycle")) ∷ [])) (λ policy. refl) _ r is
+    ∙ (λ i. (form.PolicyChange, name_kept _ (fit (codes "policy")) i ∷ yes_or_no_kept _ (fit (codes "active")) i ∷ name_kept _ (fit (codes "lifecycle")) i ∷ []))
+spells form.PolicyRemove v r fit is = one_spelled request.PolicyRemove (λ policy. (form.PolicyRemove, policy ∷ [])) (λ policy. refl) _ r is ∙ (λ i. (form.PolicyRemove, name_kept _ (fit (codes "policy")) i ∷ []))
+spells form.PolicyClientAdd v r fit is = two_spelled request.PolicyClientAdd (λ policy client. (form.PolicyClientAdd, policy ∷ client ∷ [])) (λ policy client. refl) _ _ r is ∙ (λ i. (form.PolicyClientAdd, name_kept _ (fit (codes "policy")) i ∷ name_kept _ (fit (codes "client")) i ∷ []))
+spells form.PolicyClientRemove v r fit is = two_spelled request.PolicyClientRemove (λ policy client. (form.PolicyClientRemove, policy ∷ client ∷ [])) (λ policy client. refl) _ _ r is ∙ (λ i. (form.PolicyClientRemove, name_kept _ (fit (codes "policy")) i ∷ name_kept _ (fit (codes "client")) i ∷ []))
+spells form.PolicySelect v r fit is = two_spelled request.PolicySelect (λ policy path. (form.PolicySelect, policy ∷ option_map written path ∷ [])) (λ policy path. refl) _ _ r is ∙ (λ i. (form.PolicySelect, name_kept _ (fit (codes "policy")) i ∷ path_kept _ (fit (codes "path")) i ∷ []))
+spells form.PolicyUnselect v r fit is = two_spelled request.PolicyUnselect (λ policy path. (form.PolicyUnselect, policy ∷ option_map written path ∷ [])) (λ policy path. refl) _ _ r is ∙ (λ i. (form.PolicyUnselect, name_kept _ (fit (codes "policy")) i ∷ path_kept _ (fit (codes "path")) i ∷ []))
+spells form.ScheduleAdd v r fit is = schedule_spells request.ScheduleAdd form.ScheduleAdd (λ policy schedule kind frequency calendar windows. refl) v r fit is
+spells form.ScheduleChange v r fit is = schedule_spells request.ScheduleChange form.ScheduleChange (λ policy schedule kind frequency calendar windows. refl) v r fit is
+spells form.ScheduleRemove v r fit is = two_spelled request.ScheduleRemove (λ policy schedule. (form.ScheduleRemove, policy ∷ schedule ∷ [])) (λ policy schedule. refl) _ _ r is ∙ (λ i. (form.ScheduleRemove, name_kept _ (fit (codes "policy")) i ∷ name_kept _ (fit (codes "schedule")) i ∷ []))
+spells form.ZoneSet v r fit is = ap spelled (sym (chosen (is_one (option_and_then rule_of (v (codes "rule"))) (option_and_then offset_of (v (codes "offset")))) (request.ZoneSet _ _) r is)) ∙ (λ i. (form.ZoneSet, rule_kept _ (fit (codes "rule")) i ∷ offset_kept _ (fit (codes "offset")) i ∷ []))
+spells form.Load v r fit is = ap spelled (sym (same_value request.Load r is))
+spells form.Backup v r fit is =
+    one_spelled (λ client. request.Backup client (option_and_then name_of (v (codes "policy"))) (option_and_then name_of (v (codes "schedule"))) (option_and_then start_of (v (codes "start"))))
+    (λ client. (form.Backup, client ∷ option_and_then name_of (v (codes "policy")) ∷ option_and_then name_of (v (codes "schedule")) ∷ option_map start_text (option_and_then start_of (v (codes "start"))) ∷ [])) (λ client. refl) _ r is
+    ∙ (λ i. (form.Backup, name_kept _ (fit (codes "client")) i ∷ name_kept _ (fit (codes "policy")) i ∷ name_kept _ (fit (codes "schedule")) i ∷ start_kept _ (fit (codes "start")) i ∷ []))
+spells form.Restore v r fit is =
+    one_spelled (λ id. request.Restore id (option_and_then (number_between 1 32) (v (codes "copy")))) (λ id. (form.Restore, option_map id_text id ∷ option_map decimal (option_and_then (number_between 1 32) (v (codes "copy"))) ∷ [])) (λ id. refl) _ r is
+    ∙ (λ i. (form.Restore, id_kept _ (fit (codes "id")) i ∷ number_kept 1 32 _ (fit (codes "copy")) i ∷ []))
 
 pub reread : (words : List (List ℕ)) (r : Request) → read_words words ≡ Ok r → IsFormed r
-reread words r is = words_reread words r is
+reread words r is = words_reread spells words r is
+
+pub formed_so : (words : List (List ℕ)) (result : Result Request WordFault) → IsReading result (read_words words) → IfOk result IsFormed
+formed_so words (Ok r) is = reread words r is
+formed_so words (Err fault) is = tt

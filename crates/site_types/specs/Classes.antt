@@ -2,6 +2,8 @@
 use Rattle.std.specs.Prelude.{ℕ, Bool, true, false, List, Option, option_map}
 use Rattle.site_types.specs.declared.class.ByClass.{ByClass}
 use Rattle.site_types.specs.declared.class.ByClass.TheVariants as by
+use Rattle.site_types.specs.declared.forms.Class.{Class}
+use Rattle.site_types.specs.declared.forms.Class.TheVariants as tag
 use Rattle.site_types.specs.declared.id.BackupId.{BackupId}
 use Rattle.site_types.specs.declared.request.Request.{Request}
 use Rattle.site_types.specs.declared.request.Request.TheVariants as request
@@ -46,6 +48,13 @@ has_payload (site_change request) = false
 has_payload site_file = true
 has_payload (backup client policy schedule start) = true
 has_payload (restore id copy) = false
+
+-- the class alone
+abbrev pub tag_of : RequestClass → Class
+tag_of (site_change request) = tag.SiteChange
+tag_of site_file = tag.SiteFile
+tag_of (backup client policy schedule start) = tag.Backup
+tag_of (restore id copy) = tag.Restore
 
 -- what the code has of a class
 abbrev pub class_seen : ByClass → RequestClass

@@ -14,8 +14,10 @@ pub mod ZoneWords
 pub mod Paths
 pub mod Values
 pub mod Ids
+pub mod Fields
 pub mod Answers
 pub mod Keys
+pub mod Forms
 pub mod Requests
 pub mod Lines
 pub mod LineTexts

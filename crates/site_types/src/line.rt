@@ -3,6 +3,8 @@
 ghost use Rattle.std.specs.Prelude.{◌≡◌, ◌∷◌, ◌++◌, codes, IfOk, OnOk, option_copied, option_map};
 ghost use Rattle.std.specs.Fmt.{decimal};
 ghost use Rattle.site_types.specs.CalendarTexts.{calendar_text};
+ghost use Rattle.std.specs.List.{join_with_byte};
+ghost use Rattle.site_types.specs.Forms.{form_words, row_stated};
 ghost use Rattle.site_types.specs.Lines.{given};
 ghost use Rattle.site_types.specs.LineTexts.{field_text};
 ghost use Rattle.site_types.specs.WindowTexts.{windows_text};
@@ -12,7 +14,7 @@ use crate::joined_text::push_joined;
 use crate::offset_text::push_offset;
 use crate::window_text::push_windows;
 use crate::wording::push_number;
-use crate::{CalendarItem, ListOf, Name, NoMemory, Windows};
+use crate::{CalendarItem, Form, ListOf, Name, NoMemory, Windows};
 use std::alloc::Global;
 
 // A line as it is made: the words of a form, and behind them those of the keys that have a value.
@@ -22,12 +24,15 @@ pub struct Line {
 }
 
 impl Line {
-    pub fn new(alloc: Global, form: &[u8]) -> Result<Line, NoMemory>
-        ensures { IfOk result (λ line. line.text.items ≡ form.now) }
+    pub fn new(alloc: Global, form: &Form) -> Result<Line, NoMemory>
+        ensures { IfOk result (λ line. line.text.items ≡ join_with_byte 32 (form_words (row_stated form.now))) }
     {
-        Ok(Line {
-            text: form.to_vec(alloc)?,
-        })
+        let mut text = form.first.to_vec(alloc)?;
+        if let Some(second) = form.second {
+            text.push(b' ')?;
+            text.extend_from_slice(second)?;
+        }
+        Ok(Line { text })
     }
 
     pub fn text(&self) -> &[u8]

@@ -1,7 +1,9 @@
+use crate::forms::{form_among, formless};
+use crate::keys::first_bad;
 use crate::line::Line;
-use crate::read::read_form;
 use crate::{
-    BackupId, CalendarItem, Kind, ListOf, Name, NoMemory, PolicyType, Start, Text, Windows,
+    BackupId, ByClass, CalendarItem, Class, Form, Kind, ListOf, Name, NoMemory, PolicyType, Start,
+    Text, Windows,
 };
 use std::alloc::Global;
 
@@ -128,6 +130,7 @@ impl From<NoMemory> for WordFault {
 
 impl Request {
     ghost use Rattle.std.specs.Prelude.{◌≡◌, ◌++◌, length, IfOk, OnOk, OnErr};
+    ghost use Rattle.site_types.specs.Classes.{class_of, class_seen, tag_of};
     ghost use Rattle.site_types.specs.Requests.{IsReading, IsWithin, read_words, takes_payload};
     ghost use Rattle.site_types.specs.Lines.{IsFormed, line_of};
 
@@ -138,14 +141,62 @@ impl Request {
         ensures within { IsWithin result (length words.now) }
         ensures formed { IfOk result IsFormed }
     {
-        read_form(alloc, words)
+        match form_among(words) {
+            Some(form) => form.read(alloc, words),
+            None => Err(WordFault::Bad {
+                index: formless(words),
+            }),
+        }
     }
 
     /// Its line may name a payload.
     pub fn takes_payload(&self) -> bool
         ensures { result ≡ takes_payload self.now }
     {
-        matches!(self, Request::Load | Request::Backup { .. })
+        self.form().takes_payload
+    }
+
+    /// Its class, with what that asks for.
+    pub fn by_class(&self) -> ByClass<'_>
+        ensures { class_seen result ≡ class_of self.now }
+    {
+        match self {
+            Request::UnitAdd { .. }
+            | Request::UnitChange { .. }
+            | Request::ClientAdd { .. }
+            | Request::ClientRemove { .. }
+            | Request::PolicyAdd { .. }
+            | Request::PolicyChange { .. }
+            | Request::PolicyRemove { .. }
+            | Request::PolicyClientAdd { .. }
+            | Request::PolicyClientRemove { .. }
+            | Request::PolicySelect { .. }
+            | Request::PolicyUnselect { .. }
+            | Request::ScheduleAdd { .. }
+            | Request::ScheduleChange { .. }
+            | Request::ScheduleRemove { .. }
+            | Request::ZoneSet { .. } => ByClass::SiteChange(self),
+            Request::Load => ByClass::SiteFile,
+            Request::Backup {
+                client,
+                policy,
+                schedule,
+                start,
+            } => ByClass::Backup {
+                client,
+                policy: policy.as_ref(),
+                schedule: schedule.as_ref(),
+                start: *start,
+            },
+            Request::Restore { id, copy } => ByClass::Restore { id, copy: *copy },
+        }
+    }
+
+    /// The class of its form.
+    pub fn class(&self) -> Class
+        ensures { result ≡ tag_of (class_of self.now) }
+    {
+        self.form().class
     }
 
     /// Appends its words, joined by single spaces, with the keys in the order of their table. Where the request is formed, `read`
@@ -155,8 +206,32 @@ impl Request {
         ensures written { OnOk result (out.new.items ≡ out.old.items ++ line_of self.now) }
         ensures unchanged { OnErr result (out.new.items ≡ out.old.items) }
     {
-        let form = Line::new(alloc, self.form())?;
+        let form = Line::new(alloc, &self.form())?;
         let line = self.fields(alloc, form)?;
         out.extend_from_slice(line.text())
+    }
+}
+
+impl Form {
+    ghost use Rattle.std.specs.Prelude.{◌≡◌, ◌≤◌, length, true};
+    ghost use Rattle.site_types.specs.Forms.{begins, form_named, row_stated};
+    ghost use Rattle.site_types.specs.Requests.{IsReading, IsWithin, form_read};
+
+    // The request that words ask for which begin with its own. Where its values make none, words are missing, or they don't go
+    // together: the fault's index is the number of all words.
+    fn read(&self, alloc: Global, words: &[Text]) -> Result<Request, WordFault>
+        requires row { row_stated self.now ≡ form_named self.now.name }
+        requires begun { begins (row_stated self.now).first (row_stated self.now).second words.now ≡ true }
+        ensures reading { IsReading result (form_read (row_stated self.now) words.now) }
+        ensures within { IsWithin result (length words.now) }
+    {
+        let further = &words[self.count()..];
+        let made = self.name.made(alloc, further)?;
+        match first_bad(alloc, further, self.keys, self.count() as u64)? {
+            Some(index) => Err(WordFault::Bad { index }),
+            None => made.ok_or(WordFault::Bad {
+                index: words.len() as u64,
+            }),
+        }
     }
 }

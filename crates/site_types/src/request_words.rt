@@ -3,10 +3,19 @@
 // The words of requests: a form, and its keys with their values.
 ghost use Rattle.std.specs.Prelude.{◌≡◌, ◌++◌, [], ◌∷◌, codes, IfOk, option_copied, option_map};
 ghost use Rattle.std.specs.Fmt.{decimal};
-ghost use Rattle.site_types.specs.Lines.{fields_of, given, schedule_fields};
-ghost use Rattle.site_types.specs.LineTexts.{form_text, fields_text};
+ghost use Rattle.site_types.specs.Classes.{class_of, has_payload, tag_of};
+ghost use Rattle.site_types.specs.Forms.{form_of, row_stated, schedule_keys, schedule_texts};
+ghost use Rattle.site_types.specs.Lines.{fields_by, fields_of, given};
+ghost use Rattle.site_types.specs.LineTexts.{fields_text};
 ghost use Rattle.site_types.specs.declared.request.Request.TheVariants.{PolicyAdd};
 
+use crate::forms::{
+    ACTIVE, BACKUP, CALENDAR, CAPACITY, CLIENT, CLIENT_ADD, CLIENT_REMOVE, COPY, FRAGMENT,
+    FREQUENCY, Form, HIGH, ID, KIND, LIFECYCLE, LOAD, LOW, NAME, OFFSET, PATH, POLICY, POLICY_ADD,
+    POLICY_CHANGE, POLICY_CLIENT_ADD, POLICY_CLIENT_REMOVE, POLICY_REMOVE, POLICY_SELECT,
+    POLICY_UNSELECT, RESTORE, RULE, SCHEDULE, SCHEDULE_ADD, SCHEDULE_CHANGE, SCHEDULE_REMOVE,
+    SEGMENT, SLOTS, START, TYPE, UNIT_ADD, UNIT_CHANGE, WINDOWS, ZONE_SET,
+};
 use crate::line::Line;
 use crate::value_text::{kind_text, start_text, type_text, yes_or_no_text};
 use crate::{
@@ -15,28 +24,31 @@ use crate::{
 use std::alloc::Global;
 
 impl Request {
-    pub fn form(&self) -> &'static [u8]
-        ensures { result.now ≡ form_text self.now }
+    /// The row of its form.
+    pub fn form(&self) -> Form
+        ensures row { row_stated result ≡ form_of self.now }
+        ensures payload { result.takes_payload ≡ has_payload (class_of self.now) }
+        ensures class { result.class ≡ tag_of (class_of self.now) }
     {
         match self {
-            Request::UnitAdd { .. } => b"unit add",
-            Request::UnitChange { .. } => b"unit change",
-            Request::ClientAdd { .. } => b"client add",
-            Request::ClientRemove { .. } => b"client remove",
-            Request::PolicyAdd { .. } => b"bppolicynew add",
-            Request::PolicyChange { .. } => b"bppolicynew change",
-            Request::PolicyRemove { .. } => b"bppolicynew remove",
-            Request::PolicyClientAdd { .. } => b"bppolicynew client-add",
-            Request::PolicyClientRemove { .. } => b"bppolicynew client-remove",
-            Request::PolicySelect { .. } => b"bppolicynew select",
-            Request::PolicyUnselect { .. } => b"bppolicynew unselect",
-            Request::ScheduleAdd { .. } => b"bpplsched add",
-            Request::ScheduleChange { .. } => b"bpplsched change",
-            Request::ScheduleRemove { .. } => b"bpplsched remove",
-            Request::ZoneSet { .. } => b"bpzone set",
-            Request::Load => b"bpload",
-            Request::Backup { .. } => b"bpbackup",
-            Request::Restore { .. } => b"bprestore",
+            Request::UnitAdd { .. } => UNIT_ADD,
+            Request::UnitChange { .. } => UNIT_CHANGE,
+            Request::ClientAdd { .. } => CLIENT_ADD,
+            Request::ClientRemove { .. } => CLIENT_REMOVE,
+            Request::PolicyAdd { .. } => POLICY_ADD,
+            Request::PolicyChange { .. } => POLICY_CHANGE,
+            Request::PolicyRemove { .. } => POLICY_REMOVE,
+            Request::PolicyClientAdd { .. } => POLICY_CLIENT_ADD,
+            Request::PolicyClientRemove { .. } => POLICY_CLIENT_REMOVE,
+            Request::PolicySelect { .. } => POLICY_SELECT,
+            Request::PolicyUnselect { .. } => POLICY_UNSELECT,
+            Request::ScheduleAdd { .. } => SCHEDULE_ADD,
+            Request::ScheduleChange { .. } => SCHEDULE_CHANGE,
+            Request::ScheduleRemove { .. } => SCHEDULE_REMOVE,
+            Request::ZoneSet { .. } => ZONE_SET,
+            Request::Load => LOAD,
+            Request::Backup { .. } => BACKUP,
+            Request::Restore { .. } => RESTORE,
         }
     }
 
@@ -54,7 +66,7 @@ impl Request {
                 high,
                 low,
             } => line
-                .name(b"name", name)?
+                .name(NAME.name, name)?
                 .sizes(*capacity, *segment, *fragment)?
                 .limits(*slots, *high, *low),
             Request::UnitChange {
@@ -64,11 +76,11 @@ impl Request {
                 high,
                 low,
             } => line
-                .name(b"name", name)?
-                .number_if(b"capacity", *capacity)?
+                .name(NAME.name, name)?
+                .number_if(CAPACITY.name, *capacity)?
                 .limits(*slots, *high, *low),
             Request::ClientAdd { name } | Request::ClientRemove { name } => {
-                line.name(b"name", name)
+                line.name(NAME.name, name)
             }
             Request::PolicyAdd {
                 policy,
@@ -80,17 +92,17 @@ impl Request {
                 active,
                 lifecycle,
             } => line
-                .name(b"policy", policy)?
-                .word_if(b"active", active.map(yes_or_no_text))?
-                .name_if(b"lifecycle", lifecycle.as_ref()),
-            Request::PolicyRemove { policy } => line.name(b"policy", policy),
+                .name(POLICY.name, policy)?
+                .word_if(ACTIVE.name, active.map(yes_or_no_text))?
+                .name_if(LIFECYCLE.name, lifecycle.as_ref()),
+            Request::PolicyRemove { policy } => line.name(POLICY.name, policy),
             Request::PolicyClientAdd { policy, client }
             | Request::PolicyClientRemove { policy, client } => {
-                line.name(b"policy", policy)?.name(b"client", client)
+                line.name(POLICY.name, policy)?.name(CLIENT.name, client)
             }
             Request::PolicySelect { policy, path } | Request::PolicyUnselect { policy, path } => {
-                line.name(b"policy", policy)?
-                    .word(b"path", written_path(alloc, path)?.bytes())
+                line.name(POLICY.name, policy)?
+                    .word(PATH.name, written_path(alloc, path)?.bytes())
             }
             Request::ScheduleAdd {
                 policy,
@@ -116,11 +128,12 @@ impl Request {
                 windows,
             ),
             Request::ScheduleRemove { policy, schedule } => {
-                line.name(b"policy", policy)?.name(b"schedule", schedule)
+                line.name(POLICY.name, policy)?
+                    .name(SCHEDULE.name, schedule)
             }
             Request::ZoneSet { rule, offset } => line
-                .word_if(b"rule", rule.as_ref().map(Text::bytes))?
-                .offset_if(b"offset", *offset),
+                .word_if(RULE.name, rule.as_ref().map(Text::bytes))?
+                .offset_if(OFFSET.name, *offset),
             Request::Load => Ok(line),
             Request::Backup {
                 client,
@@ -128,13 +141,13 @@ impl Request {
                 schedule,
                 start,
             } => line
-                .name(b"client", client)?
-                .name_if(b"policy", policy.as_ref())?
-                .name_if(b"schedule", schedule.as_ref())?
-                .word_if(b"start", start.map(start_text)),
+                .name(CLIENT.name, client)?
+                .name_if(POLICY.name, policy.as_ref())?
+                .name_if(SCHEDULE.name, schedule.as_ref())?
+                .word_if(START.name, start.map(start_text)),
             Request::Restore { id, copy } => line
-                .word(b"id", id.text(alloc)?.bytes())?
-                .number_if(b"copy", copy.map(u64::from)),
+                .word(ID.name, id.text(alloc)?.bytes())?
+                .number_if(COPY.name, copy.map(u64::from)),
         }
     }
 }
@@ -148,17 +161,17 @@ impl Line {
     ) -> Result<Line, NoMemory>
         ensures { IfOk result (λ line. line.text.items ≡ self.text.items ++ fields_text (given (codes "capacity") (decimal capacity) ∷ (codes "segment", option_map decimal segment) ∷ (codes "fragment", option_map decimal fragment) ∷ [])) }
     {
-        self.number(b"capacity", capacity)?
-            .number_if(b"segment", segment.map(u64::from))?
-            .number_if(b"fragment", fragment.map(u64::from))
+        self.number(CAPACITY.name, capacity)?
+            .number_if(SEGMENT.name, segment.map(u64::from))?
+            .number_if(FRAGMENT.name, fragment.map(u64::from))
     }
 
     fn limits(self, slots: Option<u32>, high: Option<u8>, low: Option<u8>) -> Result<Line, NoMemory>
         ensures { IfOk result (λ line. line.text.items ≡ self.text.items ++ fields_text ((codes "slots", option_map decimal slots) ∷ (codes "high", option_map decimal high) ∷ (codes "low", option_map decimal low) ∷ [])) }
     {
-        self.number_if(b"slots", slots.map(u64::from))?
-            .number_if(b"high", high.map(u64::from))?
-            .number_if(b"low", low.map(u64::from))
+        self.number_if(SLOTS.name, slots.map(u64::from))?
+            .number_if(HIGH.name, high.map(u64::from))?
+            .number_if(LOW.name, low.map(u64::from))
     }
 
     fn policy_added(
@@ -169,9 +182,9 @@ impl Line {
     ) -> Result<Line, NoMemory>
         ensures { IfOk result (λ line. line.text.items ≡ self.text.items ++ fields_text (fields_of (PolicyAdd policy.now policy_type lifecycle.now))) }
     {
-        self.name(b"policy", policy)?
-            .word(b"type", type_text(policy_type))?
-            .name(b"lifecycle", lifecycle)
+        self.name(POLICY.name, policy)?
+            .word(TYPE.name, type_text(policy_type))?
+            .name(LIFECYCLE.name, lifecycle)
     }
 
     fn schedule(
@@ -183,70 +196,13 @@ impl Line {
         calendar: Option<&ListOf<CalendarItem>>,
         windows: &Windows,
     ) -> Result<Line, NoMemory>
-        ensures { IfOk result (λ line. line.text.items ≡ self.text.items ++ fields_text (schedule_fields policy.now schedule.now kind frequency (option_copied calendar.entry) windows.now)) }
+        ensures { IfOk result (λ line. line.text.items ≡ self.text.items ++ fields_text (fields_by schedule_keys (schedule_texts policy.now schedule.now kind frequency (option_copied calendar.entry) windows.now))) }
     {
-        self.name(b"policy", policy)?
-            .name(b"schedule", schedule)?
-            .word(b"kind", kind_text(kind))?
-            .number_if(b"frequency", frequency)?
-            .calendar_if(b"calendar", calendar)?
-            .windows(b"windows", windows)
-    }
-}
-
-#[cfg(test)]
-mod tests {
-    use super::*;
-    use crate::{Day, Window};
-    use std::process::Abort;
-    use std::test::*;
-
-    fn name(rt: &(impl Abort + Alloc<A = Global>), text: &[u8]) -> Result<Name, NoMemory> {
-        Ok(Name::new(rt.alloc(), text)?.expect(rt, "a name"))
-    }
-
-    fn unit(rt: &(impl Abort + Alloc<A = Global>)) -> Result<Request, NoMemory> {
-        Ok(Request::UnitAdd {
-            name: name(rt, b"u1")?,
-            capacity: 1_073_741_824,
-            segment: Some(1024),
-            fragment: None,
-            slots: None,
-            high: None,
-            low: Some(50),
-        })
-    }
-
-    fn schedule(rt: &(impl Abort + Alloc<A = Global>)) -> Result<Request, NoMemory> {
-        let items = vec![in rt.alloc();
-            CalendarItem::Weekday { week: 5, day: 5 },
-            CalendarItem::MonthDay(0),
-            CalendarItem::Exclude(Day::new(2026, 12, 5).expect(rt, "a day")),
-        ]?;
-        let windows = vec![in rt.alloc();
-            Window::new(5, 72_000, 36_000).expect(rt, "a window"),
-            Window::new(0, 3_723, 60).expect(rt, "a window"),
-        ]?;
-        Ok(Request::ScheduleAdd {
-            policy: name(rt, b"mail")?,
-            schedule: name(rt, b"weekly")?,
-            kind: Kind::Differential,
-            frequency: None,
-            calendar: Some(ListOf::from_vec(items)),
-            windows: Windows::Listed(ListOf::from_vec(windows)),
-        })
-    }
-
-    #[test]
-    fn lines_are_as_an_administrator_types_them(rt: HostRuntime) -> Result<(), Fail> {
-        let mut out = b"".to_vec(rt.alloc())?;
-        unit(&rt)?.write_line(rt.alloc(), &mut out)?;
-        out.push(b'\n')?;
-        schedule(&rt)?.write_line(rt.alloc(), &mut out)?;
-        let typed = b"unit add name=u1 capacity=1073741824 segment=1024 low=50\n\
-            bpplsched add policy=mail schedule=weekly kind=diff calendar=wLfri+mL+x2026-12-05 \
-            windows=fri/20:00:00/36000+sun/01:02:03/60";
-        assert_eq!(rt; out.as_slice(), typed.as_slice());
-        Ok(())
+        self.name(POLICY.name, policy)?
+            .name(SCHEDULE.name, schedule)?
+            .word(KIND.name, kind_text(kind))?
+            .number_if(FREQUENCY.name, frequency)?
+            .calendar_if(CALENDAR.name, calendar)?
+            .windows(WINDOWS.name, windows)
     }
 }

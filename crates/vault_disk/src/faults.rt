@@ -1,9 +1,10 @@
 // Counts of faults, and which calls are to fail.
-ghost use Rattle.std.specs.Prelude.{◌≡◌, ◌≤◌, ◌↔◌, [], IsTrue, IfOk, Contains};
-ghost use Rattle.vault_disk.specs.Steps.{Rose};
+ghost use Rattle.std.specs.Prelude.{◌≡◌, ◌≤◌, ◌↔◌, [], IsTrue, IfOk, Ok, Contains};
+ghost use Rattle.vault_disk.specs.Steps.{HasCause, Rose};
 
 use crate::Failed;
 use std::alloc::{AllocError, Global};
+use std::io;
 
 // Counts a failure.
 pub(crate) fn raise(faults: &mut u64) -> Failed
@@ -12,6 +13,17 @@ pub(crate) fn raise(faults: &mut u64) -> Failed
 {
     *faults = faults.saturating_add(1);
     Failed
+}
+
+// What a call of the system gave, where a failure is counted.
+pub(crate) fn counted<T: Drop>(done: io::Result<T>, faults: &mut u64) -> Result<T, Failed>
+    ensures value { IfOk result (λ v. done ≡ Ok v) }
+    ensures cause { HasCause faults.old faults.new result }
+{
+    match done {
+        Ok(value) => Ok(value),
+        Err(_) => Err(raise(faults)),
+    }
 }
 
 // Which calls of an object are to fail, by their numbers from 1.

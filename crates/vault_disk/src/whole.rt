@@ -1,11 +1,11 @@
-// A whole file.
-ghost use Rattle.std.specs.Prelude.{◌≡◌, length, IfOk, IsErrOf};
+// Reads that go on until there is no room, or nothing more.
+ghost use Rattle.std.specs.Prelude.{◌≡◌, ◌≤◌, length, IfOk, IsErrOf};
 ghost use Rattle.vault_disk.specs.declared.whole.ReadFault.TheVariants.{NoMemory, Failed};
 ghost use Rattle.vault_disk.specs.Disk.{IsSame};
-ghost use Rattle.vault_disk.specs.Steps.{LookedAround, Rose};
+ghost use Rattle.vault_disk.specs.Steps.{HasCause, LookedAround, ReadsFully, Rose};
 
-use crate::{Vault, read_fully};
-use std::alloc::{AllocError, Global};
+use crate::{NoMemory, Vault};
+use std::alloc::Global;
 
 /// Why a whole file wasn't read.
 #[derive(Clone, Copy, Debug, PartialEq, Eq)]
@@ -16,10 +16,10 @@ pub enum ReadFault {
     Failed,
 }
 
-impl From<AllocError> for ReadFault {
+impl From<NoMemory> for ReadFault {
     ghost from_gives = { λ _ e. e ≡ NoMemory };
 
-    fn from(_: AllocError) -> Self {
+    fn from(_: NoMemory) -> Self {
         ReadFault::NoMemory
     }
 }
@@ -30,6 +30,30 @@ impl From<crate::Failed> for ReadFault {
     fn from(_: crate::Failed) -> Self {
         ReadFault::Failed
     }
+}
+
+/// Reads a file from offset `at` on, until the slice is full or the file ends, and says how many bytes it read.
+pub fn read_fully<V: Vault>(
+    vault: &mut V,
+    file: u32,
+    at: u64,
+    into: &mut [u8],
+) -> Result<usize, crate::Failed>
+    ensures bound { IfOk result (λ n. n ≤ length into.new) }
+    ensures bytes { (V.disk vault.old).tells → IfOk result (λ n. ReadsFully ((V.disk vault.old).seen file) at n into.new) }
+    ensures looked { (V.disk vault.old).tells → LookedAround (V.disk vault.old) (V.disk vault.new) }
+    ensures same { IsSame (V.disk vault.old) (V.disk vault.new) }
+    ensures cause { HasCause (V.disk vault.old).faults (V.disk vault.new).faults result }
+{
+    let mut filled = 0;
+    while filled < into.len() {
+        let count = vault.read(file, at + filled as u64, &mut into[filled..])?;
+        if count == 0 {
+            return Ok(filled);
+        }
+        filled += count;
+    }
+    Ok(filled)
 }
 
 /// The bytes of a whole file.
@@ -46,7 +70,8 @@ pub fn read_whole<V: Vault>(alloc: Global, vault: &mut V, file: u32) -> Result<V
     Ok(bytes)
 }
 
-fn zeros(alloc: Global, count: usize) -> Result<Vec<u8>, AllocError>
+/// So many zeros.
+pub fn zeros(alloc: Global, count: usize) -> Result<Vec<u8>, NoMemory>
     ensures { IfOk result (λ v. length v.items ≡ count) }
 {
     vec![in alloc; 0u8; count]

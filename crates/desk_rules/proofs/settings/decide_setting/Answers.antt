@@ -1,0 +1,16 @@
+use Rattle.std.proofs.Common.{[], ap}
+use Rattle.site_types.specs.declared.answer.Answer.TheVariants.{Done}
+use Rattle.desk_model.specs.Refusals.{first_refusal}
+use Rattle.desk_model.specs.Settings.{setting_refusals}
+use Rattle.desk_rules.specs.Decisions.{SetsSite}
+use Rattle.desk_rules.specs.Seen.{seen}
+use Rattle.desk_rules.proofs.SiteChangeLemmas.{made_decides, refused_decides}
+use Rattle.desk_rules.proofs.settings.decide_setting.Goals as goal
+
+pub returns-in-Ok : goal.returns-in-Ok
+returns-in-Ok c =
+    made_decides (first_refusal (setting_refusals c.args.request.now (seen c.args.site.now c.args.images.now))) (Done []) (SetsSite c.args.site.now c.args.request.now) _ c.in-Ok.ensures.passes.passed (cc (c.from_vec.ensures, c.new.ensures.items)) c.in-Ok.ensures.change
+
+pub returns-in-Err : goal.returns-in-Err
+returns-in-Err c =
+    refused_decides (setting_refusals c.args.request.now (seen c.args.site.now c.args.images.now)) c.in-Err.refusal (Done []) (SetsSite c.args.site.now c.args.request.now) c.refused.result c.in-Err.ensures.passes c.refused.ensures.answer c.refused.ensures.change

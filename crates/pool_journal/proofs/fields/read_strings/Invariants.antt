@@ -1,0 +1,7 @@
+use Rattle.std.proofs.Common.{◌≡◌, ◌-◌}
+use Rattle.pool_journal.specs.Fields.{strings_field}
+use Rattle.pool_journal.proofs.Lines.{behind_texts}
+use Rattle.pool_journal.proofs.fields.read_strings.Given as goal
+
+abbrev pub invariant-loop : goal.invariant-loop
+invariant-loop l = strings_field l.count l.fn.fields ≡ behind_texts l.texts.items (strings_field (l.count - l.counter) l.fields)

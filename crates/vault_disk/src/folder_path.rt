@@ -1,0 +1,39 @@
+// The texts of a folder's path: the folders above it, and what is told of one that can't be used.
+use std::alloc::{AllocError, Global};
+use std::io;
+use std::io::ErrorKind;
+
+// A folder, and the one above it.
+type Below<'a> = (&'a str, &'a str);
+
+// The folders on the way of a path, from the top on, and its own.
+pub(crate) fn folders_of(alloc: Global, path: &str) -> Result<Vec<Below<'_>>, AllocError> {
+    let mut folders = Vec::new(alloc);
+    for end in 1..path.len() + 1 {
+        let is_whole = end == path.len() || path.as_bytes()[end] == b'/';
+        if let (Some(folder), true) = (path.get(..end), is_whole) {
+            let above = top_or_last(&folders, path);
+            folders.push((folder, above))?;
+        }
+    }
+    Ok(folders)
+}
+
+// The folder that was found last, and where none was, that in which the path begins.
+fn top_or_last<'a>(folders: &[Below<'a>], path: &str) -> &'a str {
+    match folders.last() {
+        Some((folder, _)) => folder,
+        None if path.starts_with('/') => "/",
+        None => ".",
+    }
+}
+
+// The line that says why a folder isn't used.
+pub(crate) fn refusal(alloc: Global, path: &str, fault: &io::Error) -> Result<String, AllocError> {
+    match fault.kind() {
+        ErrorKind::WouldBlock => {
+            format!(in alloc; "bpdesk: the vault {path} is in use by another process")
+        }
+        _ => format!(in alloc; "bpdesk: cannot open {path}: {fault}"),
+    }
+}
