@@ -5,7 +5,7 @@ use Rattle.site_types.specs.Classes.{RequestClass, site_change, site_file, backu
 use Rattle.site_types.specs.declared.answer.Answer.{Answer}
 use Rattle.site_types.specs.declared.answer.Answer.TheVariants.{Done}
 use Rattle.site_types.specs.declared.request.Request.{Request}
-use Rattle.site_types.specs.declared.request.Request.TheVariants.{ClientRemove, PolicyRemove}
+use Rattle.site_types.specs.declared.request.Request.TheVariants as request
 use Rattle.policy_book.specs.declared.fault.BookFault.{BookFault}
 use Rattle.policy_book.specs.declared.fault.BookFault.TheVariants.{Exists, Unknown, InUse, TooMany, Rule, NoMemory}
 use Rattle.policy_book.specs.Requests.{refusals_of}
@@ -35,9 +35,9 @@ plain_fault (Rule rule) = (tt, tt)
 plain_fault NoMemory = (tt, tt)
 
 plain_uses : (request : Request) (s : State) → ArePlain (use_refusals request s)
-plain_uses (ClientRemove name) s = ((tt, tt), ((tt, tt), tt))
-plain_uses (PolicyRemove policy) s = ((tt, tt), ((tt, tt), tt))
-plain_uses request s = tt
+plain_uses (request.ClientRemove name) s = ((tt, tt), ((tt, tt), tt))
+plain_uses (request.PolicyRemove policy) s = ((tt, tt), ((tt, tt), tt))
+plain_uses r s = tt
 
 plain_before : (rs : List (Bool × BookFault)) (more : List (Bool × Answer)) → ArePlain more → ArePlain (map (λ (r : Bool × BookFault). (r.0, refusal_answer r.1)) rs ++ more)
 plain_before [] more plain = plain

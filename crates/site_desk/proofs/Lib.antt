@@ -18,5 +18,4 @@ pub mod SiteSettings
 pub mod Standings
 pub mod States
 pub mod Writing
-pub mod ZoneLemmas
 pub mod OfRequests

@@ -120,6 +120,10 @@ settled_by-with s line = read (result_ok (read_line line))
     read None = refl
     read (Some request) = at request (is_setting request) (bytes_eq (line_of request) line)
 
+-- a line that is no request of settings
+pub no_setting : (records : List Found) (s : State) (line : List ℕ) (index : Index) → setting_of line ≡ None → IsReached records (settled_by s line) index false
+no_setting records s line index none = settled_by-with s line ∙ ap (settled_with s) none
+
 -- the request of a line was carried out, or refused
 pub line_settled : (records : List Found) (images : List Image) (stored : List Stored) (line : List ℕ) (request : Request) (refusal : Option Answer) (done : Bool) (old new : Index) → setting_of line ≡ Some request → is_some refusal ≡ not done → IsSet (built old.site images stored) request old new refusal → Remembers records new images
     → IsReached records (settled_by (built old.site images stored) line) new done

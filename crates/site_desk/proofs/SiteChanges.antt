@@ -8,23 +8,23 @@ use Rattle.site_types.specs.declared.answer.Answer.{Answer}
 use Rattle.site_types.specs.declared.id.BackupId.{BackupId}
 use Rattle.site_types.specs.declared.image.ImageRecord.{ImageRecord}
 use Rattle.site_types.specs.declared.request.Request.{Request}
-use Rattle.site_types.specs.declared.request.Request.TheVariants.{UnitAdd, UnitChange, ClientAdd, ClientRemove, PolicyAdd, PolicyChange, PolicyRemove, PolicyClientAdd, PolicyClientRemove, PolicySelect, PolicyUnselect, ScheduleAdd, ScheduleChange, ScheduleRemove}
+use Rattle.site_types.specs.declared.request.Request.TheVariants as request
 use Rattle.policy_book.specs.Lists.{named, has}
 use Rattle.policy_book.specs.Book.{Book, Policy, unit_name, client_name, policy_name, client_limit, policy_limit}
 use Rattle.policy_book.specs.declared.client.Client.{Client}
 use Rattle.policy_book.specs.Changes.{has_lifecycle, last_of, lister}
-use Rattle.policy_book.specs.Changes as changes
-use Rattle.policy_book.specs.Requests.{refusals_of}
-use Rattle.policy_book.specs.declared.fault.BookFault.{BookFault}
 use Rattle.image_catalogue.specs.Images.{same_id, first_of_client, record_named, with_record}
 use Rattle.pool_journal.specs.Records.{Found}
 use Rattle.desk_model.specs.declared.site.Site.{Site}
 use Rattle.desk_model.specs.State.{State, Image, Stored, entries, has_image, with_image}
 use Rattle.desk_model.specs.Refusals.{first_refusal}
-use Rattle.desk_model.specs.Settings.{is_setting, refusal_answer, use_refusals, setting_refusals, site_after}
-use Rattle.desk_rules.specs.declared.decision.Change.TheVariants.{Settings}
+use Rattle.desk_model.specs.Settings.{is_setting, setting_refusals, site_after}
+use Rattle.desk_rules.specs.declared.decision.Change.{Change}
+use Rattle.desk_rules.specs.declared.decision.Change.TheVariants.{Nothing, Settings, Load, SealNow}
+use Rattle.desk_rules.specs.declared.decision.SiteChange.{SiteChange}
 use Rattle.desk_rules.specs.declared.decision.Decision.{Decision}
-use Rattle.desk_rules.specs.Decisions.{IsDecision}
+use Rattle.desk_rules.specs.Decisions.{IsDecision, SetsSite}
+use Rattle.desk_rules.specs.SiteChanges.{IsSiteChange, site_made}
 use Rattle.desk_rules.specs.Seen.{blank}
 use Rattle.desk_rules.proofs.SeenLemmas.{entries_seen}
 use Rattle.site_desk.specs.Index.{built, IsWhole, TimesBelow, Remembers, IsSet, SameExtents, SameIndex}
@@ -32,7 +32,7 @@ use Rattle.std.specs.BTreeMap.{is_at}
 use Rattle.site_desk.specs.Extents.{Catalogued, extent_of, id_cmp, Adds, Removes}
 use Rattle.site_desk.proofs.Admitting.{entries-with, has_entry, has_image-with}
 use Rattle.site_desk.proofs.Changing.{class_change}
-use Rattle.site_desk.proofs.Deciding.{none_so, some_so}
+use Rattle.site_desk.proofs.Deciding.{none_so, some_so, passed_so}
 use Rattle.site_desk.proofs.ExtentLemmas.{at_same, same_is}
 use Rattle.site_desk.specs.declared.extents.Extent.{Extent}
 use Rattle.site_desk.specs.declared.index.Index.{Index}
@@ -94,13 +94,13 @@ below_removed name book images none below id there = at (bytes_eq name id.client
     at false is = below id there
 
 below_after : (r : Request) (site : Site) (images : List Image) (stored : List Stored) → first_refusal (setting_refusals r (built site images stored)) ≡ None → TimesBelow site.book images → TimesBelow (site_after r site).book images
-below_after (ClientAdd name) site images stored passes below = λ id there.
+below_after (request.ClientAdd name) site images stored passes below = λ id there.
     let new : has client_name name site.book.clients ≡ false = second_false (nat_le client_limit (length site.book.clients)) (has client_name name site.book.clients) _ _ _ passes in
     subst (λ (o : Option Client). id.time ≤ last_in o) (sym (named-put client_name (record { name = name; last = 0 }) id.client site.book.clients)) (below_added name site.book images new below id there)
-below_after (ClientRemove name) site images stored passes below = λ id there.
+below_after (request.ClientRemove name) site images stored passes below = λ id there.
     let none : is_some (first_of_client name (entries images)) ≡ false = third_false (not (has client_name name site.book.clients)) (is_some (lister name site.book.policies)) (is_some (first_of_client name (entries images))) _ _ _ _ passes in
     subst (λ (o : Option Client). id.time ≤ last_in o) (sym (named-without client_name name id.client site.book.clients)) (below_removed name site.book images none below id there)
-below_after request site images stored passes below = below
+below_after r site images stored passes below = below
 
 -- The lifecycles of the policies.
 
@@ -124,76 +124,75 @@ changes_lifecycle None book p there under = under
 changes_lifecycle (Some l) book p there under = not_so (has_lifecycle l book) there
 
 whole_after : (r : Request) (site : Site) (images : List Image) (stored : List Stored) → first_refusal (setting_refusals r (built site images stored)) ≡ None → IsWhole site.book → IsWhole (site_after r site).book
-whole_after (UnitAdd name capacity segment fragment slots high low) site images stored passes whole = record {
+whole_after (request.UnitAdd name capacity segment fragment slots high low) site images stored passes whole = record {
   lifecycles = whole.lifecycles;
   unit = ap is_some (named-put unit_name _ (codes "disk0") site.book.units) ∙ some_of (bytes_eq name (codes "disk0")) _ (named unit_name (codes "disk0") site.book.units) ∙ added_true (bytes_eq name (codes "disk0")) (has unit_name (codes "disk0") site.book.units) whole.unit;
   policies = whole.policies;
 }
-whole_after (UnitChange name capacity slots high low) site images stored passes whole = record {
+whole_after (request.UnitChange name capacity slots high low) site images stored passes whole = record {
   lifecycles = whole.lifecycles;
   unit = has-changed unit_name name _ (λ u. refl) (codes "disk0") site.book.units ∙ whole.unit;
   policies = whole.policies;
 }
-whole_after (PolicyAdd policy policy_type lifecycle) site images stored passes whole =
+whole_after (request.PolicyAdd policy policy_type lifecycle) site images stored passes whole =
     let there : not (has_lifecycle lifecycle site.book) ≡ false = third_false (nat_le policy_limit (length site.book.policies)) (has policy_name policy site.book.policies) (not (has_lifecycle lifecycle site.book)) _ _ _ _ passes in
     record { lifecycles = whole.lifecycles; unit = whole.unit; policies = each-put policy_name (IsUnder site.book) _ site.book.policies (not_so (has_lifecycle lifecycle site.book) there) whole.policies }
-whole_after (PolicyChange policy active lifecycle) site images stored passes whole =
+whole_after (request.PolicyChange policy active lifecycle) site images stored passes whole =
     let there : option_map_or (λ l. not (has_lifecycle l site.book)) lifecycle false ≡ false = second_false (not (has policy_name policy site.book.policies)) (option_map_or (λ l. not (has_lifecycle l site.book)) lifecycle false) _ _ _ passes in
     whole_with policy _ site.book (λ p under. changes_lifecycle lifecycle site.book p there under) whole
-whole_after (PolicyRemove policy) site images stored passes whole = record { lifecycles = whole.lifecycles; unit = whole.unit; policies = each-without policy_name (IsUnder site.book) policy site.book.policies whole.policies }
-whole_after (PolicyClientAdd policy client) site images stored passes whole = whole_with policy _ site.book (λ p under. under) whole
-whole_after (PolicyClientRemove policy client) site images stored passes whole = whole_with policy _ site.book (λ p under. under) whole
-whole_after (PolicySelect policy path) site images stored passes whole = whole_with policy _ site.book (λ p under. under) whole
-whole_after (PolicyUnselect policy path) site images stored passes whole = whole_with policy _ site.book (λ p under. under) whole
-whole_after (ScheduleAdd policy schedule kind frequency calendar windows) site images stored passes whole = whole_with policy _ site.book (λ p under. under) whole
-whole_after (ScheduleChange policy schedule kind frequency calendar windows) site images stored passes whole = whole_with policy _ site.book (λ p under. under) whole
-whole_after (ScheduleRemove policy schedule) site images stored passes whole = whole_with policy _ site.book (λ p under. under) whole
-whole_after request site images stored passes whole = record { lifecycles = whole.lifecycles; unit = whole.unit; policies = whole.policies }
-
--- What the desk lets through, the book lets through.
-book_passes : (rs : List (Bool × BookFault)) (more : List (Bool × Answer)) → first_refusal (map (λ (r : Bool × BookFault). (r.0, refusal_answer r.1)) rs ++ more) ≡ None → changes.first_refusal rs ≡ None
-book_passes [] more passes = refl
-book_passes (r ∷ rs) more passes = at r.0 (book_passes rs more) passes
-  where
-    later : Option Answer
-    later = first_refusal (map (λ (x : Bool × BookFault). (x.0, refusal_answer x.1)) rs ++ more)
-
-    at : (b : Bool) → (later ≡ None → changes.first_refusal rs ≡ None) → (if b then Some (refusal_answer r.1) else later) ≡ None → (if b then Some r.1 else changes.first_refusal rs) ≡ None
-    at true rest none = absurd (cc none)
-    at false rest none = rest none
+whole_after (request.PolicyRemove policy) site images stored passes whole = record { lifecycles = whole.lifecycles; unit = whole.unit; policies = each-without policy_name (IsUnder site.book) policy site.book.policies whole.policies }
+whole_after (request.PolicyClientAdd policy client) site images stored passes whole = whole_with policy _ site.book (λ p under. under) whole
+whole_after (request.PolicyClientRemove policy client) site images stored passes whole = whole_with policy _ site.book (λ p under. under) whole
+whole_after (request.PolicySelect policy path) site images stored passes whole = whole_with policy _ site.book (λ p under. under) whole
+whole_after (request.PolicyUnselect policy path) site images stored passes whole = whole_with policy _ site.book (λ p under. under) whole
+whole_after (request.ScheduleAdd policy schedule kind frequency calendar windows) site images stored passes whole = whole_with policy _ site.book (λ p under. under) whole
+whole_after (request.ScheduleChange policy schedule kind frequency calendar windows) site images stored passes whole = whole_with policy _ site.book (λ p under. under) whole
+whole_after (request.ScheduleRemove policy schedule) site images stored passes whole = whole_with policy _ site.book (λ p under. under) whole
+whole_after r site images stored passes whole = record { lifecycles = whole.lifecycles; unit = whole.unit; policies = whole.policies }
 
 -- What set leaves.
+
+sets : (site : Site) (r : Request) (c : Change) → SetsSite site r c → ((change : SiteChange) → c ≢ Settings change) → ⊥
+sets site r (Settings change) is other = other change refl
+sets site r Nothing is other = is
+sets site r Load is other = is
+sets site r (SealNow body) is other = is
 
 module _ (old new : Index) (images : List Image) (stored : List Stored) (r : Request) (d : Decision) (setting : is_setting r ≡ true) (decided : IsDecision (built old.site images stored) r [] 0 d) where
   abbrev s : State
   s = built old.site images stored
 
-  passes : d.change ≡ Settings → first_refusal (setting_refusals r s) ≡ None
-  passes is = none_so s r (site_change r) [] 0 d (class_change r setting) decided (λ nothing. cc (sym is ∙ nothing))
-
-  pub allowed_so : d.change ≡ Settings → changes.first_refusal (refusals_of r old.site.book) ≡ None
-  allowed_so is = book_passes (refusals_of r old.site.book) (use_refusals r (built old.site images stored)) (passes is)
-
-  pub set_so : d.change ≡ Settings → new.site ≡ site_after r old.site → new.catalogue ≡ old.catalogue → new.extents ≡ old.extents → IsSet (built old.site images stored) r old new None
-  set_so is site_is catalogue_is extents_are = record { first = passes is; done = λ _. site_is; refused = λ a none. absurd (cc none); catalogue = catalogue_is; extents = extents_are }
-
-  pub refused_so : d.change ≢ Settings → new.site ≡ old.site → new.catalogue ≡ old.catalogue → new.extents ≡ old.extents → IsSet (built old.site images stored) r old new (Some d.answer)
-  refused_so is site_is catalogue_is extents_are = record {
-    first = some_so s r (site_change r) [] 0 d (class_change r setting) decided (λ answer_is change_is. is change_is);
+  pub refused_so : ((change : SiteChange) → d.change ≢ Settings change) → new.site ≡ old.site → new.catalogue ≡ old.catalogue → new.extents ≡ old.extents → IsSet s r old new (Some d.answer)
+  refused_so other site_is catalogue_is extents_are = record {
+    first = some_so s r (site_change r) [] 0 d (class_change r setting) decided (λ answer_is change_is. sets old.site r d.change change_is other);
     done = λ none. absurd (cc none);
     refused = λ a some. site_is;
     catalogue = catalogue_is;
     extents = extents_are;
   }
 
-  pub remembered_so : (records : List Found) → Remembers records old images → d.change ≡ Settings → new.site ≡ site_after r old.site → new.catalogue ≡ old.catalogue → new.extents ≡ old.extents → Remembers records new images
-  remembered_so records remembers is site_is catalogue_is extents_are = record {
-    listed = remembers.listed ∙ sym catalogue_is;
-    catalogued = subst (λ (es : List (BackupId × Extent)). Catalogued records es images) (sym extents_are) remembers.catalogued;
-    sized = remembers.sized;
-    below = subst (λ (s : Site). TimesBelow s.book images) (sym site_is) (below_after r old.site images stored (passes is) remembers.below);
-    whole = subst (λ (s : Site). IsWhole s.book) (sym site_is) (whole_after r old.site images stored (passes is) remembers.whole);
-  }
+  module _ (change : SiteChange) (is : d.change ≡ Settings change) where
+    passes : first_refusal (setting_refusals r s) ≡ None
+    passes = none_so s r (site_change r) [] 0 d (class_change r setting) decided (λ nothing. cc (sym is ∙ nothing))
+
+    pub change_so : IsSiteChange old.site r change
+    change_so = subst (SetsSite old.site r) is (passed_so s r (site_change r) [] 0 d (class_change r setting) decided passes).1
+
+    module _ (made : new.site ≡ site_made change old.site) (catalogue_is : new.catalogue ≡ old.catalogue) (extents_are : new.extents ≡ old.extents) where
+      site_is : new.site ≡ site_after r old.site
+      site_is = made ∙ change_so.made
+
+      pub set_so : IsSet s r old new None
+      set_so = record { first = passes; done = λ _. site_is; refused = λ a none. absurd (cc none); catalogue = catalogue_is; extents = extents_are }
+
+      pub remembered_so : (records : List Found) → Remembers records old images → Remembers records new images
+      remembered_so records remembers = record {
+        listed = remembers.listed ∙ sym catalogue_is;
+        catalogued = subst (λ (es : List (BackupId × Extent)). Catalogued records es images) (sym extents_are) remembers.catalogued;
+        sized = remembers.sized;
+        below = subst (λ (site : Site). TimesBelow site.book images) (sym site_is) (below_after r old.site images stored passes remembers.below);
+        whole = subst (λ (site : Site). IsWhole site.book) (sym site_is) (whole_after r old.site images stored passes remembers.whole);
+      }
 
 -- An image that was admitted is taken out again.
 

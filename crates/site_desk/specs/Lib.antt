@@ -4,4 +4,3 @@ pub mod Index
 pub mod Replays
 pub mod Desk
 pub mod Steps
-pub mod Zoned

@@ -1,6 +1,7 @@
 // A backup at once.
 ghost use Rattle.std.specs.Prelude.{◌≡◌, ◌≢◌, ◌<◌, ◌≤◌, ◌^◌, ℕ, List, true, false, length, IfOk, OnOk, OnErr, IfErr};
 ghost use Rattle.site_types.specs.Limits.{last_moment};
+ghost use Rattle.site_types.specs.Lines.{IsFormed};
 ghost use Rattle.site_types.specs.declared.image.Base.TheVariants as base;
 ghost use Rattle.pool_journal.specs.declared.entry.Entry.TheVariants as entry;
 ghost use Rattle.pool_journal.specs.Entries.{IsStaged, body_of};
@@ -99,6 +100,7 @@ pub fn prepare_backup(
     moment: u64,
 ) -> Result<Ready, Answer>
     requires backup { is_backup request.now ≡ true }
+    requires formed { IsFormed request.now }
     requires moment { moment ≤ last_moment }
     ensures ready { (records : List Found) (images : List Image) (stored : List Stored) → Remembers records index.old images → IfOk result (λ r. IsReady records end (built index.old.site images stored) request.now payload.now moment r.staged r.body index.new) }
     ensures refused { (records : List Found) (images : List Image) (stored : List Stored) → Remembers records index.old images → IfErr result (IsRefused (built index.old.site images stored) request.now payload.now moment) }

@@ -1,21 +1,18 @@
 // The desk's index of its journal: the site, the catalogue, and where the bytes of each image stand.
-ghost use Rattle.std.specs.Prelude.{◌≡◌, true, None, is_some, OnOk, OnErr};
+ghost use Rattle.std.specs.Prelude.{◌≡◌, None, is_some, OnOk, OnErr};
 ghost use Rattle.site_types.specs.declared.id.BackupId.{BackupId as Id};
-ghost use Rattle.policy_book.specs.Changes.{client_sealed, first_refusal};
-ghost use Rattle.policy_book.specs.Requests.{refusals_of};
+ghost use Rattle.policy_book.specs.Changes.{client_sealed};
 ghost use Rattle.image_catalogue.specs.Images.{record_named, with_record};
-ghost use Rattle.desk_model.specs.Settings.{is_setting, site_after};
+ghost use Rattle.desk_rules.specs.SiteChanges.{CanBeMade, site_made};
 ghost use Rattle.site_desk.specs.Extents.{extent_of};
-ghost use Rattle.site_desk.specs.Zoned.{IsZoned};
 
 use crate::extents::{Extent, Extents};
-use crate::zone::zone_given;
 use desk_model::Site;
-use desk_rules::{Change, Decision, decide};
+use desk_rules::{Change, Decision, SiteChange, decide};
 use image_catalogue::Catalogue;
-use policy_book::{Book, BookFault};
+use policy_book::Book;
 use site_types::{Answer, BackupId, ImageRecord, NoMemory, Request};
-use std::alloc::{AllocError, Global};
+use std::alloc::Global;
 
 /// The site, the catalogue, and where the bytes of each image stand.
 #[derive(Drop)]
@@ -28,10 +25,11 @@ pub struct Index {
 }
 
 impl Index {
-    ghost use Rattle.std.specs.Prelude.{List, length, Contains, IfOk};
+    ghost use Rattle.std.specs.Prelude.{List, length, Contains, true, IfOk};
     ghost use Rattle.site_types.specs.Lines.{IsFormed};
     ghost use Rattle.pool_journal.specs.Records.{Found};
     ghost use Rattle.desk_model.specs.State.{Image, Stored, entries};
+    ghost use Rattle.desk_model.specs.Settings.{is_setting};
     ghost use Rattle.site_desk.specs.Extents.{Adds};
     ghost use Rattle.site_desk.specs.Index.{built, Remembers, IsSet, SameIndex};
 
@@ -46,10 +44,10 @@ impl Index {
     {
         let decision = decide(alloc, &self.site, &self.catalogue, request, 0, 0)?;
         let Decision { answer, change } = decision;
-        let Change::Settings = change else {
+        let Change::Settings { change } = change else {
             return Ok(Some(answer));
         };
-        change_site(alloc, &mut self.site, request)?;
+        carry_out(alloc, &mut self.site, change)?;
         Ok(None)
     }
 
@@ -102,21 +100,16 @@ fn add_image(
     sealed
 }
 
-// Makes the change of a request that nothing refuses.
-fn change_site(alloc: Global, site: &mut Site, request: &Request) -> Result<(), NoMemory>
-    requires setting { is_setting request.now ≡ true }
-    requires zoned { IsZoned request.now }
-    requires allowed { first_refusal (refusals_of request.now site.old.book) ≡ None }
-    ensures changed { OnOk result (site.new ≡ site_after request.now site.old) }
+fn carry_out(alloc: Global, site: &mut Site, change: SiteChange<'_>) -> Result<(), NoMemory>
+    requires { CanBeMade site.old change }
+    ensures made { OnOk result (site.new ≡ site_made change.entry site.old) }
     ensures unchanged { OnErr result (site.new ≡ site.old) }
 {
-    if let Request::ZoneSet { rule, offset } = request {
-        site.zone = zone_given(alloc, rule.as_ref(), *offset)?;
-        return Ok(());
-    }
-    match site.book.apply(alloc, request) {
-        Ok(()) => Ok(()),
-        Err(BookFault::NoMemory) => Err(AllocError),
-        Err(_) => unreachable!(), // Nothing refuses it.
+    match change {
+        SiteChange::Book(staged) => site.book.carry_out(alloc, staged),
+        SiteChange::Zone(zone) => {
+            site.zone = zone;
+            Ok(())
+        }
     }
 }

@@ -16,6 +16,5 @@ mod replay;
 mod restore;
 mod setting;
 mod step;
-mod zone;
 
 pub use desk::Desk;

@@ -108,6 +108,7 @@ pub fn prepare_load(
     moment: u64,
 ) -> Result<Ready, Answer>
     requires file { class_of request.now ≡ site_file }
+    requires formed { IsFormed request.now }
     requires moment { moment ≤ last_moment }
     ensures ready { (records : List Found) (images : List Image) (stored : List Stored) (end : ℕ) → Remembers records index.old images → IfOk result (λ r. IsReady records end (built index.old.site images stored) request.now payload.now moment r.staged r.body index.new) }
     ensures refused { (records : List Found) (images : List Image) (stored : List Stored) → Remembers records index.old images → IfErr result (IsRefused (built index.old.site images stored) request.now payload.now moment) }

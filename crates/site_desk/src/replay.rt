@@ -19,15 +19,12 @@ use crate::image::record_of;
 use crate::index::Index;
 use crate::setting::settle_lines;
 use desk_model::Site;
+use desk_rules::{IMAGE_LIMIT, takes_all};
 use image_catalogue::Catalogue;
-use policy_book::Book;
+use policy_book::{Book, CLIENT_LIMIT};
 use pool_journal::{Entry, Placed, WholeImage};
 use site_types::{BackupId, Base, LAST_MOMENT, NoMemory};
 use std::alloc::Global;
-
-const IMAGE_LIMIT: u64 = 1_048_576;
-
-const CLIENT_LIMIT: usize = 1_024;
 
 fn is_new(catalogue: &Catalogue, id: &BackupId) -> bool
     ensures { result ≡ is_none (record_named id.now catalogue.now) }
@@ -60,7 +57,7 @@ fn client_fits(book: &Book, image: &WholeImage) -> bool
     ensures { result ≡ (is_known image.now.id.client book.now || (takes_all image.now.policy && nat_lt (length book.now.clients) client_limit)) }
 {
     book.client(&image.id.client).is_some()
-        || (image.policy.bytes() == b"adhoc".as_slice() && book.clients().len() < CLIENT_LIMIT)
+        || (takes_all(&image.policy) && book.clients().len() < CLIENT_LIMIT)
 }
 
 fn is_base_below(base: Base, time: u64) -> bool

@@ -2,6 +2,7 @@
 ghost use Rattle.std.specs.Prelude.{◌≡◌, ◌≤◌, ℕ, List, Option, Some, IfOk, IfErr};
 ghost use Rattle.site_types.specs.Classes.{class_of, restore};
 ghost use Rattle.site_types.specs.Limits.{last_moment};
+ghost use Rattle.site_types.specs.Lines.{IsFormed};
 ghost use Rattle.pool_journal.specs.Records.{Found};
 ghost use Rattle.desk_model.specs.State.{Image, Stored, image_named};
 ghost use Rattle.desk_model.specs.Step.{bytes_of, step};
@@ -25,6 +26,7 @@ pub fn locate(
     moment: u64,
 ) -> Result<Extent, Answer>
     requires restore { (copy : Option ℕ) × (class_of request.now ≡ restore id.now copy) }
+    requires formed { IsFormed request.now }
     requires moment { moment ≤ last_moment }
     ensures found { (records : List Found) (images : List Image) (stored : List Stored) → Remembers records index.now images → IfOk result (λ e. ((step (built index.now.site images stored) request.now payload.now moment).0 ≡ Answer.Done (bytes_of (image_named id.now images))) × (extent_of id.now index.now.extents ≡ Some e)) }
     ensures refused { (records : List Found) (images : List Image) (stored : List Stored) → Remembers records index.now images → IfErr result (IsRefused (built index.now.site images stored) request.now payload.now moment) }

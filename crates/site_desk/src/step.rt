@@ -83,6 +83,7 @@ impl<V: Vault> Desk<V> {
     ) -> Answer
         requires running { self.old.stopped ≡ false }
         requires restore { (copy : Option ℕ) × (class_of request.now ≡ restore id.now copy) }
+        requires formed { IsFormed request.now }
         requires moment { moment ≤ last_moment }
         ensures steps { (V.disk self.old.vault).tells → Steps self.old.state request.now payload.now moment result (V.disk self.old.vault) (V.disk self.new.vault) self.new.state }
         ensures kinds { IsOfStep result }
