@@ -13,7 +13,6 @@ use Rattle.desk_model.specs.State.{State, Image, Stored, entries}
 use Rattle.desk_model.specs.Refusals.{Case, first_refusal, unless_refused, step_of}
 use Rattle.desk_model.specs.Settings.{refusal_answer, use_refusals, setting_refusals}
 use Rattle.desk_model.specs.Step.{case_of, step}
-use Rattle.desk_rules.specs.declared.decision.Change.{Change}
 use Rattle.desk_rules.specs.declared.decision.Change.TheVariants.{Nothing}
 use Rattle.desk_rules.specs.declared.decision.Decision.{Decision}
 use Rattle.desk_rules.specs.Decisions.{IsStateOf, IsChange, DecidesAs, Decides, IsDecision, told}

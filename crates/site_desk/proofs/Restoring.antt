@@ -3,7 +3,7 @@ use Rattle.std.proofs.Common.{◌≡◌, ◌≢◌, inl, ℕ, true, List, [], le
 use Rattle.std.specs.Prelude.{Option, is_some, Contains}
 use Rattle.site_types.specs.Classes.{RequestClass, class_of, restore}
 use Rattle.site_types.specs.declared.answer.Answer.{Answer}
-use Rattle.site_types.specs.declared.answer.Answer.TheVariants.{Done, OutOfMemory, DiskFault}
+use Rattle.site_types.specs.declared.answer.Answer.TheVariants.{Done, DiskFault}
 use Rattle.site_types.specs.declared.id.BackupId.{BackupId}
 use Rattle.site_types.specs.declared.image.ImageRecord.{ImageRecord}
 use Rattle.site_types.specs.declared.request.Request.{Request}
@@ -12,7 +12,7 @@ use Rattle.vault_disk.specs.Steps.{LookedAround, Rests}
 use Rattle.vault_disk.proofs.Moments.{weaker}
 use Rattle.pool_journal.specs.Records.{Found, reading}
 use Rattle.image_catalogue.specs.Images.{record_named}
-use Rattle.desk_model.specs.State.{State, Image, Stored, entries, image_named}
+use Rattle.desk_model.specs.State.{State, Image, Stored, image_named}
 use Rattle.desk_model.specs.Refusals.{first_refusal, unless_refused, step_of}
 use Rattle.desk_model.specs.Step.{case_of, step, restore_refusals, bytes_of}
 use Rattle.desk_rules.specs.declared.decision.Decision.{Decision}

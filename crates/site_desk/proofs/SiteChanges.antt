@@ -1,6 +1,6 @@
 -- What a request that changes the site makes of the index.
-use Rattle.std.proofs.Common.{◌≡◌, ◌≢◌, ◌∙◌, ◌≤◌, ℕ, Bool, true, false, List, [], ◌∷◌, ◌++◌, length, map, refl, sym, ap, subst}
-use Rattle.std.specs.Prelude.{Option, Some, None, cond, is_some, not, ◌||◌, ◌&&◌, ◌==◌, nat_le, if◌then◌else◌, codes, unwrap_or, Contains}
+use Rattle.std.proofs.Common.{◌≡◌, ◌≢◌, ◌∙◌, ◌≤◌, ℕ, Bool, true, false, List, [], ◌∷◌, length, map, refl, sym, ap, subst}
+use Rattle.std.specs.Prelude.{Option, Some, None, cond, is_some, not, ◌||◌, ◌&&◌, ◌==◌, nat_le, if◌then◌else◌, codes, unwrap_or}
 use Rattle.std.specs.Option.{option_map_or}
 use Rattle.std.specs.Str.{bytes_eq}
 use Rattle.site_types.specs.Classes.{site_change}
@@ -27,7 +27,7 @@ use Rattle.desk_rules.specs.Decisions.{IsDecision, SetsSite}
 use Rattle.desk_rules.specs.SiteChanges.{IsSiteChange, site_made}
 use Rattle.desk_rules.specs.Seen.{blank}
 use Rattle.desk_rules.proofs.SeenLemmas.{entries_seen}
-use Rattle.site_desk.specs.Index.{built, IsWhole, TimesBelow, Remembers, IsSet, SameExtents, SameIndex}
+use Rattle.site_desk.specs.Index.{built, IsWhole, TimesBelow, Remembers, IsSet, SameExtents}
 use Rattle.std.specs.BTreeMap.{is_at}
 use Rattle.site_desk.specs.Extents.{Catalogued, extent_of, id_cmp, Adds, Removes}
 use Rattle.site_desk.proofs.Admitting.{entries-with, has_entry, has_image-with}

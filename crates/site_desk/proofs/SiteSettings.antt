@@ -1,5 +1,5 @@
 -- The requests of a site file change the site.
-use Rattle.std.proofs.Common.{◌≡◌, ℕ, zero, suc, ℤ, Bool, true, false, List, [], ◌∷◌, ◌++◌, length, Some, None, Ok, Err, refl, sym, subst, arith}
+use Rattle.std.proofs.Common.{◌≡◌, ℕ, zero, suc, ℤ, Bool, true, false, List, [], ◌∷◌, ◌++◌, Some, None, Ok, Err, refl, sym, subst, arith}
 use Rattle.std.specs.Prelude.{Option, Result, All, if◌then◌else◌, nat_lt, codes, unwrap_or, option_map}
 use Rattle.std.specs.List.{AllPass}
 use Rattle.std.specs.Option.{option_and_then}
