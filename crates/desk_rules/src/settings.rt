@@ -1,14 +1,15 @@
 // Changes of the site.
-ghost use Rattle.std.specs.Prelude.{◌≡◌, [], map, true, IfOk, None};
+ghost use Rattle.std.specs.Prelude.{◌≡◌, [], map, true, IfOk, None, option_map};
 ghost use Rattle.std.specs.Option.{option_copied};
 ghost use Rattle.site_types.specs.Lines.{IsFormed};
 ghost use Rattle.site_types.specs.declared.answer.Answer.TheVariants as answer;
 ghost use Rattle.desk_model.specs.declared.site.Site.{Site as SiteValue};
 ghost use Rattle.policy_book.specs.Requests.{refusals_of};
 ghost use Rattle.desk_model.specs.Refusals.{first_refusal};
-ghost use Rattle.desk_model.specs.Settings.{is_setting, refusal_answer, setting_refusals, use_refusals, used_by};
+ghost use Rattle.desk_model.specs.Settings.{is_setting, refusal_answer, removal_of, setting_refusals, use_refusals, used_by};
 ghost use Rattle.desk_rules.specs.Decisions.{DecidesAs, SetsSite};
 ghost use Rattle.desk_rules.specs.Refusing.{Passes};
+ghost use Rattle.desk_rules.specs.Removals.{removal_seen};
 ghost use Rattle.desk_rules.specs.Seen.{seen};
 ghost use Rattle.desk_rules.specs.SiteChanges.{IsSiteChange};
 
@@ -79,14 +80,31 @@ fn stage_change<'a>(
     }
 }
 
+// What a request takes out of the site for which images may have been made.
+#[derive(Clone, Copy, Debug)]
+enum Removal<'a> {
+    Client(&'a Name),
+    Policy(&'a Name),
+}
+
+fn removal_of(request: &Request) -> Option<Removal<'_>>
+    ensures { option_map removal_seen result ≡ removal_of request.now }
+{
+    match request {
+        Request::ClientRemove { name } => Some(Removal::Client(name)),
+        Request::PolicyRemove { policy } => Some(Removal::Policy(policy)),
+        _ => None,
+    }
+}
+
 // No image was made for what the request removes.
 fn check_unused(alloc: Global, images: &Catalogue, request: &Request) -> Result<(), Refusal>
     ensures { (site : SiteValue) → Passes (use_refusals request.now (seen site images.now)) result }
 {
-    match request {
-        Request::ClientRemove { name } => check_use(alloc, name, images.first_of_client(name)),
-        Request::PolicyRemove { policy } => check_use(alloc, policy, images.first_under(policy)),
-        _ => Ok(()),
+    match removal_of(request) {
+        Some(Removal::Client(name)) => check_use(alloc, name, images.first_of_client(name)),
+        Some(Removal::Policy(name)) => check_use(alloc, name, images.first_under(name)),
+        None => Ok(()),
     }
 }
 

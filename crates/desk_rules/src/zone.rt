@@ -23,7 +23,11 @@ fn zone_of_rule(alloc: Global, rule: &Text) -> Result<Zone, NoMemory>
 }
 
 // The zone of a rule, or else of an offset in seconds.
-pub(crate) fn zone_given(alloc: Global, rule: Option<&Text>, offset: Option<i32>) -> Result<Zone, NoMemory>
+pub(crate) fn zone_given(
+    alloc: Global,
+    rule: Option<&Text>,
+    offset: Option<i32>,
+) -> Result<Zone, NoMemory>
     requires { IsZone (option_copied rule) offset }
     ensures { IfOk result (λ zone. zone ≡ zone_given (option_copied rule.entry) offset) }
 {
