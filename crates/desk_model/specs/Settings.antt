@@ -1,5 +1,5 @@
 -- The requests that change the site: units, clients, policies, schedules, the zone, and all of them from a site file.
-use Rattle.std.specs.Prelude.{ℕ, ℤ, Bool, true, false, is_some, if◌then◌else◌, List, [], ◌∷◌, ◌++◌, length, map, codes, Option, Some, None, unwrap_or, find, Result, Ok, Err}
+use Rattle.std.specs.Prelude.{ℕ, ℤ, Bool, true, false, is_some, if◌then◌else◌, List, [], ◌∷◌, ◌++◌, length, map, codes, Option, Some, None, unwrap_or, find, Result, Ok, Err, option_map}
 use Rattle.std.specs.Fmt.{decimal}
 use Rattle.std.specs.Option.{option_map_or}
 use Rattle.std.specs.Str.{bytes_eq, is_utf8}
@@ -78,10 +78,14 @@ zone_given (Some rule) offset = PosixRule rule
 zone_given None (Some seconds) = FixedOffset seconds
 zone_given None None = PosixRule (codes "UTC0")
 
--- the zone that a request sets, where it sets one
+-- the rule or the offset of the zone that a request sets, where it sets one
+abbrev pub zone_asked : Request → Option (Option (List ℕ) × Option ℤ)
+zone_asked (request.ZoneSet rule offset) = Some (rule, offset)
+zone_asked _ = None
+
+-- that zone
 abbrev pub zone_set : Request → Option ZoneOf
-zone_set (request.ZoneSet rule offset) = Some (zone_given rule offset)
-zone_set _ = None
+zone_set request = option_map (λ asked. zone_given asked.0 asked.1) (zone_asked request)
 
 -- The book is left by what isn't a change of it, and the zone by what sets none.
 abbrev pub site_after : Request → Site → Site

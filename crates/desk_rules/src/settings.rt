@@ -14,7 +14,7 @@ ghost use Rattle.desk_rules.specs.Seen.{seen};
 ghost use Rattle.desk_rules.specs.SiteChanges.{IsSiteChange};
 
 use crate::refusal::{Refusal, refused};
-use crate::zone::zone_given;
+use crate::zone::zone_set;
 use crate::{Change, Decision, NoMemory, SiteChange};
 use desk_model::Site;
 use image_catalogue::Catalogue;
@@ -70,13 +70,9 @@ fn stage_change<'a>(
     ensures passes { Passes (map (λ r. (r.0, refusal_answer r.1)) (refusals_of request.now site.now.book)) result }
     ensures change { IfOk result (IsSiteChange site.now request.now) }
 {
-    match request {
-        Request::ZoneSet { rule, offset } => {
-            let zone = zone_given(alloc, rule.as_ref(), *offset)?;
-            Ok(SiteChange::Zone(zone))
-        }
-        // What sets no zone changes the book, which the proof shows of each form.
-        _ => Ok(SiteChange::Book(site.book.check(alloc, request)?)),
+    match zone_set(alloc, request)? {
+        Some(zone) => Ok(SiteChange::Zone(zone)),
+        None => Ok(SiteChange::Book(site.book.check(alloc, request)?)),
     }
 }
 
