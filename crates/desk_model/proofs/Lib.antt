@@ -1,2 +1,2 @@
 mod Rows
-mod ClassLemmas
+pub mod ClassLemmas

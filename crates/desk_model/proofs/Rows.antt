@@ -6,7 +6,7 @@ use Rattle.site_types.specs.declared.answer.Answer.{Answer}
 use Rattle.site_types.specs.declared.answer.Answer.TheVariants.{Done, Exists, Unknown, InUse, Inactive, WindowClosed, AboveHigh, UnitFull}
 use Rattle.site_types.specs.declared.id.BackupId.{BackupId}
 use Rattle.site_types.specs.declared.request.Request.{Request}
-use Rattle.site_types.specs.declared.request.Request.TheVariants.{UnitChange, ClientAdd, ClientRemove, PolicyChange, PolicyRemove, Backup, Restore}
+use Rattle.site_types.specs.declared.request.Request.TheVariants as request
 use Rattle.site_types.specs.declared.schedule.Start.TheVariants.{Scheduled}
 use Rattle.desk_model.specs.State.{State, initial}
 use Rattle.desk_model.specs.Settings.{load_of}
@@ -21,7 +21,7 @@ after s request = (step s request [] 1000).1
 
 -- a backup of alpha by hand
 abbrev backup : Request
-backup = Backup (codes "alpha") None None None
+backup = request.Backup (codes "alpha") None None None
 
 abbrev first_id : BackupId
 first_id = record { client = codes "alpha"; time = 1000 }
@@ -38,42 +38,42 @@ second_backup : (step backed_up backup (codes "hello") 1000).0 ≡ Done (codes "
 unfolding digits
 second_backup = refl
 
-given_back : answer backed_up (Restore first_id None) ≡ Done (codes "hello")
+given_back : answer backed_up (request.Restore first_id None) ≡ Done (codes "hello")
 given_back = refl
 
-no_image : answer initial (Restore first_id None) ≡ Unknown (codes "alpha_1000")
+no_image : answer initial (request.Restore first_id None) ≡ Unknown (codes "alpha_1000")
 unfolding digits
 no_image = refl
 
-no_copy : answer backed_up (Restore first_id (Some 2)) ≡ Unknown (codes "alpha_1000/2")
+no_copy : answer backed_up (request.Restore first_id (Some 2)) ≡ Unknown (codes "alpha_1000/2")
 unfolding digits
 no_copy = refl
 
-added : answer initial (ClientAdd (codes "a")) ≡ Done []
+added : answer initial (request.ClientAdd (codes "a")) ≡ Done []
 added = refl
 
-added_twice : answer (after initial (ClientAdd (codes "a"))) (ClientAdd (codes "a")) ≡ Exists (codes "a")
+added_twice : answer (after initial (request.ClientAdd (codes "a"))) (request.ClientAdd (codes "a")) ≡ Exists (codes "a")
 added_twice = refl
 
-not_there : answer initial (ClientRemove (codes "b")) ≡ Unknown (codes "b")
+not_there : answer initial (request.ClientRemove (codes "b")) ≡ Unknown (codes "b")
 not_there = refl
 
-in_use : answer backed_up (ClientRemove (codes "alpha")) ≡ InUse (codes "alpha") (codes "alpha_1000")
+in_use : answer backed_up (request.ClientRemove (codes "alpha")) ≡ InUse (codes "alpha") (codes "alpha_1000")
 unfolding digits
 in_use = refl
 
-built_in : answer initial (PolicyRemove (codes "adhoc")) ≡ InUse (codes "adhoc") (codes "desk")
+built_in : answer initial (request.PolicyRemove (codes "adhoc")) ≡ InUse (codes "adhoc") (codes "desk")
 built_in = refl
 
-closed : answer initial (Backup (codes "a") (Some (codes "adhoc")) None (Some Scheduled)) ≡ WindowClosed (codes "manual")
+closed : answer initial (request.Backup (codes "a") (Some (codes "adhoc")) None (Some Scheduled)) ≡ WindowClosed (codes "manual")
 closed = refl
 
-inactive : answer (after initial (PolicyChange (codes "adhoc") (Some false) None)) backup ≡ Inactive (codes "adhoc")
+inactive : answer (after initial (request.PolicyChange (codes "adhoc") (Some false) None)) backup ≡ Inactive (codes "adhoc")
 inactive = refl
 
 -- a unit of a hundred bytes that holds so many
 abbrev holding : ℕ → Option ℕ → State
-holding count high = (step (after initial (UnitChange (codes "disk0") (Some 100) None high None)) backup (replicate count 0) 1000).1
+holding count high = (step (after initial (request.UnitChange (codes "disk0") (Some 100) None high None)) backup (replicate count 0) 1000).1
 
 full : (step (holding 40 None) backup (replicate 61 0) 1000).0 ≡ UnitFull (codes "disk0") 40 61 100
 full = refl
@@ -90,5 +90,5 @@ unfolding digits
 below_high = refl
 
 -- a site file whose second request repeats its first leaves the state as it was
-repeated : load_of (Some (ClientAdd (codes "a") ∷ ClientAdd (codes "a") ∷ [])) initial ≡ (Exists (codes "a"), initial)
+repeated : load_of (Some (request.ClientAdd (codes "a") ∷ request.ClientAdd (codes "a") ∷ [])) initial ≡ (Exists (codes "a"), initial)
 repeated = refl

@@ -1,5 +1,5 @@
 -- The requests that change the site: units, clients, policies, schedules, the zone, and all of them from a site file.
-use Rattle.std.specs.Prelude.{ℕ, ℤ, Bool, true, false, is_some, if◌then◌else◌, List, [], ◌∷◌, ◌++◌, length, map, codes, Option, Some, None, unwrap_or, find, Result, Ok, Err}
+use Rattle.std.specs.Prelude.{ℕ, ℤ, Bool, true, false, is_some, if◌then◌else◌, List, [], ◌∷◌, ◌++◌, length, map, codes, Option, Some, None, unwrap_or, find, Result, Ok, Err, option_map}
 use Rattle.std.specs.Fmt.{decimal}
 use Rattle.std.specs.Option.{option_map_or}
 use Rattle.std.specs.Str.{bytes_eq, is_utf8}
@@ -9,7 +9,7 @@ use Rattle.site_types.specs.declared.image.ImageRecord.{ImageRecord}
 use Rattle.site_types.specs.declared.answer.Answer.{Answer}
 use Rattle.site_types.specs.declared.answer.Answer.TheVariants as answer
 use Rattle.site_types.specs.declared.request.Request.{Request}
-use Rattle.site_types.specs.declared.request.Request.TheVariants.{UnitAdd, ClientRemove, PolicyRemove, ZoneSet}
+use Rattle.site_types.specs.declared.request.Request.TheVariants as request
 use Rattle.schedule_windows.specs.Zones.{ZoneOf, FixedOffset, PosixRule}
 use Rattle.policy_book.specs.declared.fault.BookFault.{BookFault}
 use Rattle.policy_book.specs.declared.fault.BookFault.TheVariants as fault
@@ -49,11 +49,24 @@ used_by name image job =
     ∷ (is_some job, answer.InUse name (codes "job " ++ option_map_or (λ j. decimal j.0) job []))
     ∷ []
 
--- A client and a policy are in use by what was made for them, or is being made. Every other request is refused by the book alone.
+-- what a request takes out of the site for which images may have been made
+pub data Removal : Type 0 where
+  gone_client : (name : List ℕ) → Removal
+  gone_policy : (name : List ℕ) → Removal
+
+abbrev pub removal_of : Request → Option Removal
+removal_of (request.ClientRemove name) = Some (gone_client name)
+removal_of (request.PolicyRemove name) = Some (gone_policy name)
+removal_of _ = None
+
+-- A client and a policy are in use by what was made for them, or is being made.
+abbrev pub uses_of : Removal → State → List (Bool × Answer)
+uses_of (gone_client name) s = used_by name (first_of_client name (entries s.images)) (find (is_of_client name) s.jobs)
+uses_of (gone_policy name) s = used_by name (first_under name (entries s.images)) (find (is_under name) s.jobs)
+
+-- what more than the book refuses a request
 abbrev pub use_refusals : Request → State → List (Bool × Answer)
-use_refusals (ClientRemove name) s = used_by name (first_of_client name (entries s.images)) (find (is_of_client name) s.jobs)
-use_refusals (PolicyRemove policy) s = used_by policy (first_under policy (entries s.images)) (find (is_under policy) s.jobs)
-use_refusals _ s = []
+use_refusals request s = option_map_or (λ removal. uses_of removal s) (removal_of request) []
 
 -- the refusals of a request, in their order
 abbrev pub setting_refusals : Request → State → List (Bool × Answer)
@@ -65,10 +78,14 @@ zone_given (Some rule) offset = PosixRule rule
 zone_given None (Some seconds) = FixedOffset seconds
 zone_given None None = PosixRule (codes "UTC0")
 
--- the zone that a request sets, where it sets one
+-- the rule or the offset of the zone that a request sets, where it sets one
+abbrev pub zone_asked : Request → Option (Option (List ℕ) × Option ℤ)
+zone_asked (request.ZoneSet rule offset) = Some (rule, offset)
+zone_asked _ = None
+
+-- that zone
 abbrev pub zone_set : Request → Option ZoneOf
-zone_set (ZoneSet rule offset) = Some (zone_given rule offset)
-zone_set _ = None
+zone_set request = option_map (λ asked. zone_given asked.0 asked.1) (zone_asked request)
 
 -- The book is left by what isn't a change of it, and the zone by what sets none.
 abbrev pub site_after : Request → Site → Site
@@ -76,7 +93,7 @@ site_after request site = record { book = book_after request site.book; zone = u
 
 -- A unit that is added has nothing stored on it. No other request adds one.
 abbrev pub stored_after : Request → List Stored → List Stored
-stored_after (UnitAdd name capacity segment fragment slots high low) stored = stored ++ record { unit = name; pieces = [] } ∷ []
+stored_after (request.UnitAdd name capacity segment fragment slots high low) stored = stored ++ record { unit = name; pieces = [] } ∷ []
 stored_after _ stored = stored
 
 -- the state after it, where nothing refuses it

@@ -2,6 +2,7 @@
 use Rattle.std.proofs.Common.{◌≡◌, ◌∙◌, ℕ, suc, Bool, true, false, cond, List, [], ◌∷◌, ◌++◌, length, map, Option, Some, None, Result, Ok, Err, sym, ap, refl, subst, arith}
 use Rattle.std.proofs.lemmas.List.{length-map, length-replicate}
 use Rattle.std.specs.Prelude.{unwrap_or, option_map, find, Contains, IfOk}
+use Rattle.std.specs.Option.{option_map_or}
 use Rattle.std.specs.declared.alloc.AllocError.{AllocError}
 use Rattle.site_types.specs.Classes.{RequestClass, site_change, site_file, backup, restore, class_of}
 use Rattle.site_types.specs.declared.answer.Answer.{Answer}
@@ -9,7 +10,6 @@ use Rattle.site_types.specs.declared.answer.Answer.TheVariants.{Done}
 use Rattle.site_types.specs.declared.id.BackupId.{BackupId}
 use Rattle.site_types.specs.declared.image.ImageRecord.{ImageRecord}
 use Rattle.site_types.specs.declared.request.Request.{Request}
-use Rattle.site_types.specs.declared.request.Request.TheVariants.{ClientRemove, PolicyRemove}
 use Rattle.site_types.specs.declared.schedule.Start.{Start}
 use Rattle.image_catalogue.specs.Images.{first_of_client, first_under, record_named, same_id}
 use Rattle.policy_book.specs.Book.{adhoc}
@@ -18,7 +18,7 @@ use Rattle.desk_model.specs.declared.site.Site.{Site}
 use Rattle.desk_model.specs.State.{State, Image, entries, image_named}
 use Rattle.desk_model.specs.Refusals.{first_refusal}
 use Rattle.desk_model.specs.Backups.{Asked, asked_of, backup_refusals, client_refusals, policy_asked}
-use Rattle.desk_model.specs.Settings.{is_of_client, is_under, setting_refusals, use_refusals, used_by}
+use Rattle.desk_model.specs.Settings.{Removal, gone_client, gone_policy, is_of_client, is_under, removal_of, setting_refusals, use_refusals, used_by, uses_of}
 use Rattle.desk_model.specs.Step.{restore_refusals}
 use Rattle.desk_rules.specs.declared.decision.Change.{Change}
 use Rattle.desk_rules.specs.declared.decision.Change.TheVariants.{Load, Nothing, SealNow}
@@ -101,10 +101,16 @@ restore_decided site records request payload moment id copy (Ok d) is settles s 
 
 -- Changes of the site.
 
+uses_seen : (removal : Removal) (site : Site) (records : List ImageRecord) (s : State) → IsStateOf site records s → uses_of removal s ≡ uses_of removal (seen site records)
+uses_seen (gone_client name) site records s is = λ j. used_by name (first_of_client name ((is.images_are ∙ sym (entries_seen records)) j)) (find (is_of_client name) (is.idle j))
+uses_seen (gone_policy name) site records s is = λ j. used_by name (first_under name ((is.images_are ∙ sym (entries_seen records)) j)) (find (is_under name) (is.idle j))
+
 use_seen : (request : Request) (site : Site) (records : List ImageRecord) (s : State) → IsStateOf site records s → use_refusals request s ≡ use_refusals request (seen site records)
-use_seen (ClientRemove name) site records s is = λ j. used_by name (first_of_client name ((is.images_are ∙ sym (entries_seen records)) j)) (find (is_of_client name) (is.idle j))
-use_seen (PolicyRemove policy) site records s is = λ j. used_by policy (first_under policy ((is.images_are ∙ sym (entries_seen records)) j)) (find (is_under policy) (is.idle j))
-use_seen _ site records s is = refl
+use_seen request site records s is = at (removal_of request)
+  where
+    at : (o : Option Removal) → option_map_or (λ removal. uses_of removal s) o [] ≡ option_map_or (λ removal. uses_of removal (seen site records)) o []
+    at None = refl
+    at (Some removal) = uses_seen removal site records s is
 
 settings_seen : (request : Request) (site : Site) (records : List ImageRecord) (s : State) → IsStateOf site records s → setting_refusals request s ≡ setting_refusals request (seen site records)
 settings_seen request site records s is = λ j. answered (refusals_of request (is.site_is j).book) ++ use_seen request site records s is j

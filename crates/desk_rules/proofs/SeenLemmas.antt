@@ -1,6 +1,7 @@
 -- What is seen of a state.
 use Rattle.std.proofs.Common.{◌≡◌, ◌∙◌, List, [], ◌∷◌, ◌++◌, Option, None, Some, map, sym, ap, refl, ℕ}
 use Rattle.std.specs.Prelude.{unwrap_or, codes}
+use Rattle.std.specs.Option.{option_map_or}
 use Rattle.site_types.specs.Ids.{id_text}
 use Rattle.site_types.specs.declared.id.BackupId.{BackupId}
 use Rattle.site_types.specs.declared.answer.Answer.{Answer}
@@ -12,11 +13,10 @@ use Rattle.desk_rules.specs.declared.decision.JobBody.{JobBody}
 use Rattle.desk_rules.specs.declared.decision.JobBody.TheVariants.{Backup}
 use Rattle.site_types.specs.declared.image.ImageRecord.{ImageRecord}
 use Rattle.site_types.specs.declared.request.Request.{Request}
-use Rattle.site_types.specs.declared.request.Request.TheVariants.{ClientRemove, PolicyRemove}
 use Rattle.image_catalogue.specs.Images.{first_of_client, first_under}
 use Rattle.desk_model.specs.declared.site.Site.{Site}
 use Rattle.desk_model.specs.State.{State, entries}
-use Rattle.desk_model.specs.Settings.{use_refusals, used_by}
+use Rattle.desk_model.specs.Settings.{Removal, gone_client, gone_policy, removal_of, use_refusals, used_by, uses_of}
 use Rattle.policy_book.specs.Book.{Policy, adhoc, manual}
 use Rattle.desk_model.specs.Backups.{Asked, backup_refusals, client_refusals, latest_version, new_time, policy_asked, schedule_asked}
 use Rattle.desk_model.specs.Refusals.{first_refusal}
@@ -28,17 +28,20 @@ pub entries_seen : (images : List ImageRecord) → entries (map blank images) �
 entries_seen [] = refl
 entries_seen (i ∷ images) = ap (λ (is : List ImageRecord). i ∷ is) (entries_seen images)
 
-pub client_use : (site : Site) (images : List ImageRecord) (request : Request) (name : List ℕ) (found : Option ImageRecord) → request ≡ ClientRemove name → found ≡ first_of_client name images → use_refusals request (seen site images) ≡ used_by name found None
+pub client_use : (site : Site) (images : List ImageRecord) (request : Request) (name : List ℕ) (found : Option ImageRecord) → removal_of request ≡ Some (gone_client name) → found ≡ first_of_client name images → use_refusals request (seen site images) ≡ used_by name found None
 client_use site images request name found is first =
-    ap (λ (r : Request). use_refusals r (seen site images)) is
+    (λ j. option_map_or (λ removal. uses_of removal (seen site images)) (is j) [])
     ∙ ap (λ (is : List ImageRecord). used_by name (first_of_client name is) None) (entries_seen images)
     ∙ ap (λ (i : Option ImageRecord). used_by name i None) (sym first)
 
-pub policy_use : (site : Site) (images : List ImageRecord) (request : Request) (name : List ℕ) (found : Option ImageRecord) → request ≡ PolicyRemove name → found ≡ first_under name images → use_refusals request (seen site images) ≡ used_by name found None
+pub policy_use : (site : Site) (images : List ImageRecord) (request : Request) (name : List ℕ) (found : Option ImageRecord) → removal_of request ≡ Some (gone_policy name) → found ≡ first_under name images → use_refusals request (seen site images) ≡ used_by name found None
 policy_use site images request name found is first =
-    ap (λ (r : Request). use_refusals r (seen site images)) is
+    (λ j. option_map_or (λ removal. uses_of removal (seen site images)) (is j) [])
     ∙ ap (λ (is : List ImageRecord). used_by name (first_under name is) None) (entries_seen images)
     ∙ ap (λ (i : Option ImageRecord). used_by name i None) (sym first)
+
+pub no_use : (site : Site) (images : List ImageRecord) (request : Request) → removal_of request ≡ None → use_refusals request (seen site images) ≡ []
+no_use site images request is = λ j. option_map_or (λ removal. uses_of removal (seen site images)) (is j) []
 
 -- the refusals of a backup under its policy
 pub backup_seen : (site : Site) (images : List ImageRecord) (asked : Asked) (policy : Policy) (moment : ℕ) → policy_asked asked (seen site images) ≡ Some policy

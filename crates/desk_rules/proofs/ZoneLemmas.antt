@@ -1,6 +1,6 @@
 -- A request that was read sets a zone that there is.
 use Rattle.std.proofs.Common.{◌≡◌, ℕ, ◌+◌, ◌*◌, ◌≤◌, zero, suc, ℤ, pos, negsuc, neg_ℤ, unsigned_abs, List, [], ◌∷◌, length, drop, Bool, true, false, Option, Some, None, Ok, refl, sym, ap, ◌∙◌, subst, arith, codes}
-use Rattle.std.specs.Prelude.{◌&&◌, ◌==◌, if◌then◌else◌, nat_le, nat_lt, is_some}
+use Rattle.std.specs.Prelude.{◌&&◌, ◌==◌, if◌then◌else◌, nat_le, nat_lt, is_some, unwrap_or}
 use Rattle.std.specs.List.{slice_index, slice_range, slice_split, join_with_byte}
 use Rattle.std.specs.Str.{IsAscii}
 use Rattle.std.proofs.lemmas.Bool.{and_parts, ltb-true, leb-true}
@@ -20,7 +20,8 @@ use Rattle.site_types.proofs.FormLemmas.{AreAllowed, are_allowed}
 use Rattle.site_types.proofs.OptionLemmas.{guarded, chained, same_value}
 use Rattle.site_types.proofs.RereadLemmas.{read_parts}
 use Rattle.site_types.proofs.Rereading.{chosen}
-use Rattle.desk_rules.specs.Zoned.{IsRule, IsZone, IsZoned}
+use Rattle.desk_model.specs.Settings.{zone_asked}
+use Rattle.desk_rules.specs.Zoned.{IsRule, IsZone}
 
 -- A word of printed characters is text.
 
@@ -76,10 +77,6 @@ zone rule offset = request.ZoneSet rule offset
 abbrev zone_keys : List Key
 zone_keys = rule_key ∷ offset_key ∷ []
 
-abbrev values_in : Request → Option (List ℕ) × Option ℤ
-values_in (request.ZoneSet rule offset) = (rule, offset)
-values_in _ = (None, None)
-
 zone_there : (words : List (List ℕ)) (rule : Option (List ℕ)) (offset : Option ℤ) → AreAllowed zone_keys words → is_one rule offset ≡ true → among rule_of (codes "rule") words ≡ rule → among offset_of (codes "offset") words ≡ offset → IsZone rule offset
 zone_there words None None allowed one rule_is offset_is = absurd (cc one)
 zone_there words None (Some seconds) allowed one rule_is offset_is =
@@ -97,8 +94,8 @@ words_there words rule offset is =
     let parts = read_parts (first_bad zone_keys [] 2 words) (zone_of given_rule given_offset) (length (codes "bpzone" ∷ codes "set" ∷ words)) (zone rule offset) is in
     let same : zone given_rule given_offset ≡ zone rule offset = chosen (is_one given_rule given_offset) (zone given_rule given_offset) (zone rule offset) parts.1 in
     let one : is_one given_rule given_offset ≡ true = (guarded (is_one given_rule given_offset) (Some (zone given_rule given_offset)) (zone rule offset) parts.1).0 in
-    let rule_is : given_rule ≡ rule = ap (λ (r : Request). (values_in r).0) same in
-    let offset_is : given_offset ≡ offset = ap (λ (r : Request). (values_in r).1) same in
+    let rule_is : given_rule ≡ rule = ap (λ (r : Request). (unwrap_or (zone_asked r) (None, None)).0) same in
+    let offset_is : given_offset ≡ offset = ap (λ (r : Request). (unwrap_or (zone_asked r) (None, None)).1) same in
     zone_there words rule offset (are_allowed zone_keys [] 2 words parts.0) ((λ i. is_one (sym rule_is i) (sym offset_is i)) ∙ one) rule_is offset_is
 
 -- A line of the form is read as one of the form.
@@ -112,6 +109,9 @@ zone_formed rule offset formed =
     let split = line_words (words_with (fields_of (zone rule offset))) in
     words_there split.0 rule offset (ap read_words (sym split.1) ∙ formed)
 
-pub zoned : (r : Request) → IsFormed r → IsZoned r
-zoned (request.ZoneSet rule offset) formed = zone_formed rule offset formed
-zoned _ formed = tt
+pub zoned : (r : Request) (rule : Option (List ℕ)) (offset : Option ℤ) → IsFormed r → zone_asked r ≡ Some (rule, offset) → IsZone rule offset
+zoned (request.ZoneSet its_rule its_offset) rule offset formed is =
+    let same : (its_rule, its_offset) ≡ (rule, offset) = same_value (its_rule, its_offset) (rule, offset) is in
+    let IsGood : Option (List ℕ) × Option ℤ → Type 0 = λ asked. IsZone asked.0 asked.1 in
+    subst IsGood same (zone_formed its_rule its_offset formed)
+zoned _ rule offset formed is = absurd (cc is)

@@ -6,3 +6,4 @@ pub mod Seen
 pub mod Asking
 pub mod SiteChanges
 pub mod Zoned
+pub mod Removals

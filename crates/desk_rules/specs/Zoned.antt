@@ -1,9 +1,9 @@
 -- Zones that requests set.
+use Rattle.std.proofs.Common.{Bor}
+use Rattle.std.specs.Option.{option_copied}
 use Rattle.std.specs.Prelude.{ℤ, List, ℕ, Option, Some, None, IsSome, IsUtf8}
 use Rattle.jiff_core.specs.Calendar.{IsWithin}
 use Rattle.jiff_tz.specs.PosixReader.{read_whole}
-use Rattle.site_types.specs.declared.request.Request.{Request}
-use Rattle.site_types.specs.declared.request.Request.TheVariants.{ZoneSet}
 
 -- a text that is a rule
 abbrev pub IsRule : List ℕ → Type 0
@@ -15,7 +15,6 @@ IsZone (Some rule) offset = IsRule rule
 IsZone None (Some seconds) = IsWithin 86_399 seconds
 IsZone None None = ⊥
 
--- the zone that a request sets, if it does
-abbrev pub IsZoned : Request → Type 0
-IsZoned (ZoneSet rule offset) = IsZone rule offset
-IsZoned request = Unit {0}
+-- a rule or an offset, as the code has them
+abbrev pub asked_seen : Option (Bor (List ℕ)) × Option ℤ → Option (List ℕ) × Option ℤ
+asked_seen asked = (option_copied asked.0, asked.1)

@@ -1,19 +1,20 @@
 // Changes of the site.
-ghost use Rattle.std.specs.Prelude.{◌≡◌, [], map, true, IfOk, None};
+ghost use Rattle.std.specs.Prelude.{◌≡◌, [], map, true, IfOk, None, option_map};
 ghost use Rattle.std.specs.Option.{option_copied};
 ghost use Rattle.site_types.specs.Lines.{IsFormed};
 ghost use Rattle.site_types.specs.declared.answer.Answer.TheVariants as answer;
 ghost use Rattle.desk_model.specs.declared.site.Site.{Site as SiteValue};
 ghost use Rattle.policy_book.specs.Requests.{refusals_of};
 ghost use Rattle.desk_model.specs.Refusals.{first_refusal};
-ghost use Rattle.desk_model.specs.Settings.{is_setting, refusal_answer, setting_refusals, use_refusals, used_by};
+ghost use Rattle.desk_model.specs.Settings.{is_setting, refusal_answer, removal_of, setting_refusals, use_refusals, used_by};
 ghost use Rattle.desk_rules.specs.Decisions.{DecidesAs, SetsSite};
 ghost use Rattle.desk_rules.specs.Refusing.{Passes};
+ghost use Rattle.desk_rules.specs.Removals.{removal_seen};
 ghost use Rattle.desk_rules.specs.Seen.{seen};
 ghost use Rattle.desk_rules.specs.SiteChanges.{IsSiteChange};
 
 use crate::refusal::{Refusal, refused};
-use crate::zone::zone_given;
+use crate::zone::zone_set;
 use crate::{Change, Decision, NoMemory, SiteChange};
 use desk_model::Site;
 use image_catalogue::Catalogue;
@@ -69,13 +70,26 @@ fn stage_change<'a>(
     ensures passes { Passes (map (λ r. (r.0, refusal_answer r.1)) (refusals_of request.now site.now.book)) result }
     ensures change { IfOk result (IsSiteChange site.now request.now) }
 {
+    match zone_set(alloc, request)? {
+        Some(zone) => Ok(SiteChange::Zone(zone)),
+        None => Ok(SiteChange::Book(site.book.check(alloc, request)?)),
+    }
+}
+
+// What a request takes out of the site for which images may have been made.
+#[derive(Clone, Copy, Debug)]
+enum Removal<'a> {
+    Client(&'a Name),
+    Policy(&'a Name),
+}
+
+fn removal_of(request: &Request) -> Option<Removal<'_>>
+    ensures { option_map removal_seen result ≡ removal_of request.now }
+{
     match request {
-        Request::ZoneSet { rule, offset } => {
-            let zone = zone_given(alloc, rule.as_ref(), *offset)?;
-            Ok(SiteChange::Zone(zone))
-        }
-        // What sets no zone changes the book, which the proof shows of each form.
-        _ => Ok(SiteChange::Book(site.book.check(alloc, request)?)),
+        Request::ClientRemove { name } => Some(Removal::Client(name)),
+        Request::PolicyRemove { policy } => Some(Removal::Policy(policy)),
+        _ => None,
     }
 }
 
@@ -83,10 +97,10 @@ fn stage_change<'a>(
 fn check_unused(alloc: Global, images: &Catalogue, request: &Request) -> Result<(), Refusal>
     ensures { (site : SiteValue) → Passes (use_refusals request.now (seen site images.now)) result }
 {
-    match request {
-        Request::ClientRemove { name } => check_use(alloc, name, images.first_of_client(name)),
-        Request::PolicyRemove { policy } => check_use(alloc, policy, images.first_under(policy)),
-        _ => Ok(()),
+    match removal_of(request) {
+        Some(Removal::Client(name)) => check_use(alloc, name, images.first_of_client(name)),
+        Some(Removal::Policy(name)) => check_use(alloc, name, images.first_under(name)),
+        None => Ok(()),
     }
 }
 
