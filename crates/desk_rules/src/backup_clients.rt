@@ -18,7 +18,8 @@ use policy_book::{Book, CLIENT_LIMIT, Policy, pair_text};
 use site_types::{Answer, Name, Text};
 use std::alloc::Global;
 
-const IMAGE_LIMIT: u64 = 1_048_576;
+/// How many images there may be.
+pub const IMAGE_LIMIT: u64 = 1_048_576;
 
 // The policy, under which the client may be backed up.
 pub(crate) fn check_client<'a>(
@@ -64,8 +65,8 @@ fn known_policy<'a>(alloc: Global, book: &'a Book, name: &Name) -> Result<&'a Po
     }
 }
 
-// Every client may be backed up under the policy adhoc.
-fn takes_all(policy: &Name) -> bool
+/// Every client may be backed up under the policy adhoc.
+pub fn takes_all(policy: &Name) -> bool
     ensures { result ≡ takes_all policy.now }
 {
     policy.bytes() == b"adhoc".as_slice()

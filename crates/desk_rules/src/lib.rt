@@ -15,6 +15,7 @@ mod restores;
 mod settings;
 mod zone;
 
+pub use backup_clients::{IMAGE_LIMIT, takes_all};
 pub use deciding::decide;
 pub use decision::{Change, Decision, JobBody, SiteChange};
 pub use due_list::due_backups;

@@ -1,4 +1,4 @@
--- An image more in what is known.
+-- An image more in the index.
 use Rattle.std.proofs.Common.{◌≡◌, ◌≤◌, ℕ, zero, suc, max, List, [], ◌∷◌, length, Bool, true, false, Some, None, refl, sym, ◌∙◌, ap, subst, arith}
 use Rattle.std.specs.Prelude.{Option, is_some, if◌then◌else◌, ◌||◌, Contains}
 use Rattle.std.specs.Option.{option_map_or}
@@ -15,9 +15,9 @@ use Rattle.image_catalogue.specs.Images.{same_id, is_before, record_named, with_
 use Rattle.desk_model.specs.declared.site.Site.{Site}
 use Rattle.desk_model.specs.State.{Image, has_image, with_image, entries}
 use Rattle.site_desk.specs.Extents.{Adds, IsKeptAt}
-use Rattle.site_desk.specs.Known.{TimesBelow, IsWhole, Remembers}
+use Rattle.site_desk.specs.Index.{TimesBelow, IsWhole, Remembers}
 use Rattle.site_desk.specs.declared.extents.Extent.{Extent}
-use Rattle.site_desk.specs.declared.known.Known.{Known}
+use Rattle.site_desk.specs.declared.index.Index.{Index}
 use Rattle.site_desk.proofs.ExtentLemmas.{same_is, catalogued-with}
 use Rattle.site_desk.proofs.NamedLemmas.{named-put}
 
@@ -41,7 +41,7 @@ has_entry id (i ∷ images) = at (same_id i.entry.id id) (has_entry id images)
     at true more = refl
     at false more = more
 
-has_image-with : (id : BackupId) (new : Image) (images : List Image) → has_image id (with_image new images) ≡ (same_id new.entry.id id || has_image id images)
+pub has_image-with : (id : BackupId) (new : Image) (images : List Image) → has_image id (with_image new images) ≡ (same_id new.entry.id id || has_image id images)
 has_image-with id new [] = refl
 has_image-with id new (i ∷ images) = at (is_before new.entry.id i.entry.id) (has_image-with id new images)
   where
@@ -108,16 +108,16 @@ below-with new book images below id has = at (same_id new.entry.id id) refl (sym
 whole_sealed : (name : List ℕ) (time : ℕ) (book : Book) → IsWhole book → IsWhole (client_sealed name time book)
 whole_sealed name time book whole = record { lifecycles = whole.lifecycles; unit = whole.unit; policies = whole.policies }
 
--- An image that isn't there was taken in: it is known of beside those that were, and so are the records, those that were and its own.
-pub admitted : (records records' : List Found) (known known' : Known) (images : List Image) (new : Image) (extent : Extent) → ((f : Found) → Contains records f → Contains records' f) → Remembers records known images → record_named new.entry.id known.catalogue ≡ None → new.entry.length ≡ length new.bytes
-    → IsKeptAt records' extent new → known'.site ≡ record (known.site) { book = client_sealed new.entry.id.client new.entry.id.time known.site.book } → known'.catalogue ≡ with_record new.entry known.catalogue → Adds new.entry.id extent known.extents known'.extents → Remembers records' known' (with_image new images)
-admitted records records' known known' images new extent there remembers lacking size kept site catalogue adds =
+-- An image that isn't there was taken in: the index has it beside those that were.
+pub admitted : (records records' : List Found) (index index' : Index) (images : List Image) (new : Image) (extent : Extent) → ((f : Found) → Contains records f → Contains records' f) → Remembers records index images → record_named new.entry.id index.catalogue ≡ None → new.entry.length ≡ length new.bytes
+    → IsKeptAt records' extent new → index'.site ≡ record (index.site) { book = client_sealed new.entry.id.client new.entry.id.time index.site.book } → index'.catalogue ≡ with_record new.entry index.catalogue → Adds new.entry.id extent index.extents index'.extents → Remembers records' index' (with_image new images)
+admitted records records' index index' images new extent there remembers lacking size kept site catalogue adds =
     let fresh : has_image new.entry.id images ≡ false = sym (has_entry new.entry.id images) ∙ ap (λ (l : List ImageRecord). is_some (record_named new.entry.id l)) remembers.listed ∙ ap is_some lacking in
-    let book : known'.site.book ≡ client_sealed new.entry.id.client new.entry.id.time known.site.book = ap (λ (s : Site). s.book) site in
+    let book : index'.site.book ≡ client_sealed new.entry.id.client new.entry.id.time index.site.book = ap (λ (s : Site). s.book) site in
     record {
       listed = entries-with new images ∙ ap (with_record new.entry) remembers.listed ∙ sym catalogue;
-      catalogued = catalogued-with records records' known.extents known'.extents images new extent there fresh remembers.catalogued adds kept;
+      catalogued = catalogued-with records records' index.extents index'.extents images new extent there fresh remembers.catalogued adds kept;
       sized = each-with (λ i. i.entry.length ≡ length i.bytes) new images size remembers.sized;
-      below = subst (λ (b : Book). TimesBelow b (with_image new images)) (sym book) (below-with new known.site.book images remembers.below);
-      whole = subst IsWhole (sym book) (whole_sealed new.entry.id.client new.entry.id.time known.site.book remembers.whole);
+      below = subst (λ (b : Book). TimesBelow b (with_image new images)) (sym book) (below-with new index.site.book images remembers.below);
+      whole = subst IsWhole (sym book) (whole_sealed new.entry.id.client new.entry.id.time index.site.book remembers.whole);
     }

@@ -1,65 +1,48 @@
 -- A request that changes the site.
-use Rattle.std.proofs.Common.{◌≡◌, ℕ, Bool, true, List, [], ◌∷◌, ◌++◌, length, Some, None, refl, sym, ◌∙◌, ap}
+use Rattle.std.proofs.Common.{◌≡◌, ℕ, true, List, [], ◌∷◌, length, Some, None, refl, sym, ◌∙◌, ap}
 use Rattle.std.specs.Prelude.{Option, if◌then◌else◌, ◌&&◌, is_none, map, Contains, Result}
 use Rattle.std.specs.Option.{option_and_then}
 use Rattle.std.specs.Result.{result_ok}
 use Rattle.std.specs.Str.{bytes_eq}
 use Rattle.std.proofs.lemmas.Slice.Eq.{bytes_eq-Decides}
+use Rattle.site_types.specs.Classes.{RequestClass, site_change, class_of}
 use Rattle.site_types.specs.Lines.{IsFormed, line_of}
 use Rattle.site_types.specs.declared.answer.Answer.{Answer}
 use Rattle.site_types.specs.declared.answer.Answer.TheVariants.{Done}
 use Rattle.site_types.specs.declared.request.Request.{Request}
-use Rattle.site_types.specs.declared.request.Request.TheVariants.{ClientRemove, PolicyRemove, Load, Backup, Restore}
+use Rattle.site_types.specs.declared.request.Request.TheVariants.{Load, Backup, Restore}
 use Rattle.pool_journal.proofs.ImageBytes.{still_there}
 use Rattle.pool_journal.specs.declared.entry.Entry.TheVariants as entry
 use Rattle.pool_journal.specs.Entries.{Record, IsStaged}
 use Rattle.pool_journal.specs.Records.{Found}
 use Rattle.pool_journal.specs.Stops.{with_one}
-use Rattle.policy_book.specs.declared.fault.BookFault.{BookFault}
-use Rattle.policy_book.specs.declared.fault.BookFault.TheVariants.{Exists, Unknown, InUse, TooMany, Rule, NoMemory}
-use Rattle.policy_book.specs.Requests.{refusals_of}
 use Rattle.desk_model.specs.declared.site.Site.{Site}
 use Rattle.desk_model.specs.State.{State, Image, Stored, entries}
-use Rattle.desk_model.specs.Refusals.{first_refusal, unless_refused}
-use Rattle.desk_model.specs.Settings.{is_setting, refusal_answer, use_refusals, setting_refusals, stored_after, set_by, setting_step}
-use Rattle.desk_model.specs.Step.{step}
+use Rattle.desk_model.specs.Refusals.{first_refusal, unless_refused, step_of}
+use Rattle.desk_model.specs.Settings.{is_setting, setting_refusals, stored_after, set_by, setting_step}
+use Rattle.desk_model.specs.Step.{case_of, step}
 use Rattle.desk_rules.specs.Seen.{blank, seen}
 use Rattle.desk_rules.proofs.SeenLemmas.{entries_seen}
 use Rattle.site_desk.specs.Stands.{settled, settled_by, settled_as}
 use Rattle.site_desk.specs.Extents.{extent_of}
-use Rattle.site_desk.specs.Known.{built, Remembers, IsSet, SameKnown}
+use Rattle.site_desk.specs.Index.{built, Remembers, IsSet, SameIndex}
 use Rattle.site_desk.specs.Steps.{IsReady, IsRefused, IsStepRefusal}
-use Rattle.site_desk.specs.declared.known.Known.{Known}
-use Rattle.site_desk.proofs.Knowing.{remembers_more}
-use Rattle.site_desk.proofs.Refusing.{refused_as, ArePlain, first_plain, sized_seen}
+use Rattle.site_desk.specs.declared.index.Index.{Index}
+use Rattle.site_desk.proofs.IndexLemmas.{remembers_more}
+use Rattle.site_desk.proofs.Deciding.{plain_settings}
+use Rattle.site_desk.proofs.Refusing.{refused_as, first_plain, sized_seen}
 
-pub setting_steps : (s : State) (request : Request) (payload : List ℕ) (moment : ℕ) → is_setting request ≡ true → step s request payload moment ≡ setting_step request s
-setting_steps s Load payload moment is = absurd (cc is)
-setting_steps s (Backup client policy schedule start) payload moment is = absurd (cc is)
-setting_steps s (Restore id copy) payload moment is = absurd (cc is)
-setting_steps s request payload moment is = refl
+pub class_change : (request : Request) → is_setting request ≡ true → class_of request ≡ site_change request
+class_change Load is = absurd (cc is)
+class_change (Backup client policy schedule start) is = absurd (cc is)
+class_change (Restore id copy) is = absurd (cc is)
+class_change request is = refl
 
--- Its refusals are those of a step.
-
-plain_fault : (fault : BookFault) → IsStepRefusal (refusal_answer fault)
-plain_fault (Exists name) = (tt, tt)
-plain_fault (Unknown name) = (tt, tt)
-plain_fault (InUse name user) = (tt, tt)
-plain_fault (TooMany kind count limit) = (tt, tt)
-plain_fault (Rule rule) = (tt, tt)
-plain_fault NoMemory = (tt, tt)
-
-plain_uses : (request : Request) (s : State) → ArePlain (use_refusals request s)
-plain_uses (ClientRemove name) s = ((tt, tt), ((tt, tt), tt))
-plain_uses (PolicyRemove policy) s = ((tt, tt), ((tt, tt), tt))
-plain_uses request s = tt
-
-plain_before : (rs : List (Bool × BookFault)) (more : List (Bool × Answer)) → ArePlain more → ArePlain (map (λ (r : Bool × BookFault). (r.0, refusal_answer r.1)) rs ++ more)
-plain_before [] more plain = plain
-plain_before (r ∷ rs) more plain = (plain_fault r.1, plain_before rs more plain)
+setting_steps : (s : State) (request : Request) (payload : List ℕ) (moment : ℕ) → is_setting request ≡ true → step s request payload moment ≡ setting_step request s
+setting_steps s request payload moment is = ap (λ (c : RequestClass). step_of s (case_of s c payload moment)) (class_change request is)
 
 pub setting_plain : (request : Request) (s : State) (a : Answer) → first_refusal (setting_refusals request s) ≡ Some a → IsStepRefusal a
-setting_plain request s a is = first_plain (setting_refusals request s) a (plain_before (refusals_of request s.site.book) (use_refusals request s) (plain_uses request s)) is
+setting_plain request s a is = first_plain (setting_refusals request s) a (plain_settings request s) is
 
 -- The line of a request that nothing refuses makes the state after it.
 pub settles : (s : State) (request : Request) → is_setting request ≡ true → IsFormed request → first_refusal (setting_refusals request s) ≡ None → settled_by s (line_of request) ≡ Some (set_by request s)
@@ -70,17 +53,17 @@ settles s request setting formed none =
 
 -- A request was carried out or refused, over any images that the catalogue has the records of.
 
-abbrev pub Sets : Request → Known → Known → Option Answer → Type 0
+abbrev pub Sets : Request → Index → Index → Option Answer → Type 0
 Sets request old new refusal = (images : List Image) (stored : List Stored) → entries images ≡ old.catalogue → ((i : Image) → Contains images i → i.entry.length ≡ length i.bytes) → IsSet (built old.site images stored) request old new refusal
 
-module _ (request : Request) (old new : Known) (refusal : Option Answer) (sets : Sets request old new refusal) where
+module _ (request : Request) (old new : Index) (refusal : Option Answer) (sets : Sets request old new refusal) where
   pub set_seen : IsSet (seen old.site old.catalogue) request old new refusal
   set_seen = sets (map blank old.catalogue) [] (entries_seen old.catalogue) (sized_seen old.catalogue)
 
   pub refusal_plain : (a : Answer) → refusal ≡ Some a → IsStepRefusal a
   refusal_plain a is = setting_plain request (seen old.site old.catalogue) a (set_seen.first ∙ is)
 
-  pub refusal_same : (a : Answer) → refusal ≡ Some a → SameKnown old new
+  pub refusal_same : (a : Answer) → refusal ≡ Some a → SameIndex old new
   refusal_same a is = record { site = set_seen.refused a is; catalogue = set_seen.catalogue; extents = λ id. ap (extent_of id) set_seen.extents }
 
   module _ (records : List Found) (images : List Image) (stored : List Stored) (payload : List ℕ) (moment : ℕ) (setting : is_setting request ≡ true) (remembers : Remembers records old images) where

@@ -15,7 +15,7 @@ use Rattle.site_types.specs.declared.id.BackupId.{BackupId}
 use Rattle.pool_journal.specs.Records.{Found}
 use Rattle.image_catalogue.specs.Images.{same_id, is_before}
 use Rattle.desk_model.specs.State.{Image, has_image, image_named, with_image}
-use Rattle.site_desk.specs.Extents.{id_cmp, extent_of, Adds, Removes, IsKeptAt, IsKept, Catalogued}
+use Rattle.site_desk.specs.Extents.{id_cmp, extent_of, Adds, IsKeptAt, IsKept, Catalogued}
 use Rattle.site_desk.specs.declared.extents.Extent.{Extent}
 
 is_eq-then : (a b : Ordering) → is_eq (ordering_then a b) ≡ (is_eq a && is_eq b)
@@ -48,7 +48,7 @@ same_self a =
     let time : (a.time == a.time) ≡ true = grind (arith, nat_tests) in
     λ i. client i && time i
 
-has_named : (id : BackupId) (images : List Image) → has_image id images ≡ is_some (image_named id images)
+pub has_named : (id : BackupId) (images : List Image) → has_image id images ≡ is_some (image_named id images)
 has_named id [] = refl
 has_named id (i ∷ images) = at (same_id i.entry.id id) (has_named id images)
   where
@@ -87,16 +87,6 @@ kept_by records records' there None (Some i) kept = absurd kept
 kept_by records records' there (Some e) None kept = absurd kept
 kept_by records records' there (Some e) (Some i) kept = record { place = kept.place; among = there kept.place kept.among; from = kept.from; size = kept.size; bytes = kept.bytes; copy = kept.copy; copies = kept.copies; number = kept.number; primary = kept.primary }
 
-some_alike : (records : List Found) (e : Option Extent) (i : Option Image) → IsKept records e i → is_some e ≡ is_some i
-some_alike records None None kept = refl
-some_alike records None (Some i) kept = absurd kept
-some_alike records (Some e) None kept = absurd kept
-some_alike records (Some e) (Some i) kept = refl
-
--- an image is there exactly where it has an extent
-pub catalogued-has : (records : List Found) (extents : List (BackupId × Extent)) (images : List Image) (id : BackupId) → Catalogued records extents images → is_some (extent_of id extents) ≡ has_image id images
-catalogued-has records extents images id catalogued = some_alike records (extent_of id extents) (image_named id images) (catalogued id) ∙ sym (has_named id images)
-
 -- one image more
 pub catalogued-with : (records records' : List Found) (extents extents' : List (BackupId × Extent)) (images : List Image) (new : Image) (extent : Extent) → ((f : Found) → Contains records f → Contains records' f) → has_image new.entry.id images ≡ false
     → Catalogued records extents images → Adds new.entry.id extent extents extents' → IsKeptAt records' extent new → Catalogued records' extents' (with_image new images)
@@ -107,22 +97,3 @@ catalogued-with records records' extents extents' images new extent there fresh 
     either : (b : Bool) → IsKept records' (cond b (Some extent) (extent_of id extents)) (cond b (Some new) (image_named id images))
     either true = kept
     either false = kept_by records records' there (extent_of id extents) (image_named id images) (catalogued id)
-
--- an image that was added is taken out again
-pub catalogued-back : (records : List Found) (extents mid back : List (BackupId × Extent)) (images : List Image) (id : BackupId) (extent : Extent) → has_image id images ≡ false → Catalogued records extents images → Adds id extent extents mid → Removes id mid back → Catalogued records back images
-catalogued-back records extents mid back images id extent fresh catalogued adds removes q =
-    subst (λ (e : Option Extent). IsKept records e (image_named q images)) (sym (removes q ∙ ap (λ (e : Option Extent). cond (is_at (id_cmp id) q) None e) (adds q))) (either (is_at (id_cmp id) q) refl)
-  where
-    none_named : (o : Option Image) → is_some o ≡ false → o ≡ None
-    none_named None is = refl
-    none_named (Some i) is = absurd (cc is)
-
-    either : (b : Bool) → is_at (id_cmp id) q ≡ b → IsKept records (cond b None (cond b (Some extent) (extent_of q extents))) (image_named q images)
-    either true same =
-        let q_is : id ≡ q = same_is id q (sym (at_same id q) ∙ same) in
-        subst (λ (o : Option Image). IsKept records None o) (sym (ap (λ (x : BackupId). image_named x images) (sym q_is) ∙ none_named (image_named id images) (sym (has_named id images) ∙ fresh))) tt
-    either false differs = catalogued q
-
--- nothing is catalogued of no images
-pub catalogued-none : (records : List Found) (extents : List (BackupId × Extent)) → ((id : BackupId) → extent_of id extents ≡ None) → Catalogued records extents []
-catalogued-none records extents none id = subst (λ (e : Option Extent). IsKept records e None) (sym (none id)) tt

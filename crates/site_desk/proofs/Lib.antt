@@ -1,8 +1,9 @@
 pub mod Admitting
 pub mod Changing
+pub mod Deciding
 pub mod ExtentLemmas
 pub mod ImageLemmas
-pub mod Knowing
+pub mod IndexLemmas
 pub mod Loading
 pub mod NamedLemmas
 pub mod SiteChanges
@@ -17,5 +18,4 @@ pub mod SiteSettings
 pub mod Standings
 pub mod States
 pub mod Writing
-pub mod ZoneLemmas
 pub mod OfRequests

@@ -13,9 +13,6 @@ use Rattle.policy_book.specs.Lists.{named, has, put, without, changed}
 pub text_is : (a b : List ℕ) → bytes_eq a b ≡ true → a ≡ b
 text_is a b same = (bytes_eq-Decides a b).0 same
 
-pub text_self : (a : List ℕ) → bytes_eq a a ≡ true
-text_self a = (bytes_eq-Decides a a).1 refl
-
 module _ {A : Type 0} (name_of : A → List ℕ) where
   pub named-put : (new : A) (other : List ℕ) (xs : List A) → named name_of other (put name_of new xs) ≡ (if bytes_eq (name_of new) other then Some new else named name_of other xs)
   named-put new other [] = refl

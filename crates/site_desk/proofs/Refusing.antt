@@ -20,9 +20,6 @@ refused_as s request payload moment DiskFault refusal is = absurd refusal
 refused_as s request payload moment OutOfMemory refusal is = (tt, refl)
 refused_as s request payload moment a refusal is = (sym (ap (λ (p : Answer × State). p.0) is), sym (ap (λ (p : Answer × State). p.1) is))
 
-pub without_memory : (s : State) (request : Request) (payload : List ℕ) (moment : ℕ) → IsRefused s request payload moment OutOfMemory
-without_memory s request payload moment = (tt, refl)
-
 -- refusals that a step may give
 abbrev pub ArePlain : List (Bool × Answer) → Type 0
 ArePlain [] = Unit {0}

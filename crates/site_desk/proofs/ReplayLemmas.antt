@@ -26,10 +26,10 @@ use Rattle.desk_model.specs.Backups.{image_limit, sealed}
 use Rattle.desk_model.specs.Settings.{is_setting, setting_refusals, stored_after, set_by}
 use Rattle.site_desk.specs.Stands.{image_fits, whole_entry, whole_image, whole_unit, settled_as, settled_by, settled, apply_entry, apply, applied_from, applied}
 use Rattle.site_desk.specs.Extents.{Adds}
-use Rattle.site_desk.specs.Known.{built, Remembers, IsSet, Makes}
+use Rattle.site_desk.specs.Index.{built, Remembers, IsSet, Makes}
 use Rattle.site_desk.specs.Replays.{HasLength, setting_as, setting_of, Reaches, IsReached}
 use Rattle.site_desk.specs.declared.extents.Extent.{Extent}
-use Rattle.site_desk.specs.declared.known.Known.{Known}
+use Rattle.site_desk.specs.declared.index.Index.{Index}
 use Rattle.site_desk.proofs.Admitting.{has_entry, admitted}
 
 -- A record as it was read.
@@ -74,7 +74,7 @@ applied_image s f w is = ap (λ (e : Entry). apply_entry s e f.is.bytes) is
 pub image_unfit : (s : State) (f : Found) (w : WholeImage) (fits : Bool) → f.is.entry ≡ entry.WholeImage w → fits ≡ image_fits s w → fits ≡ false → apply s f.is ≡ None
 image_unfit s f w fits is fits_is differs = applied_image s f w is ∙ unfitting (image_fits s w) _ (sym fits_is ∙ differs)
 
-pub image_taken : (records : List Found) (images : List Image) (stored : List Stored) (f : Found) (w : WholeImage) (extent : Extent) (taken : ImageRecord) (fits : Bool) (old new : Known) → Contains records f → f.is.entry ≡ entry.WholeImage w → w.length ≡ length f.is.bytes → extent.from ≡ f.from → extent.length ≡ length f.is.bytes → Remembers records old images
+pub image_taken : (records : List Found) (images : List Image) (stored : List Stored) (f : Found) (w : WholeImage) (extent : Extent) (taken : ImageRecord) (fits : Bool) (old new : Index) → Contains records f → f.is.entry ≡ entry.WholeImage w → w.length ≡ length f.is.bytes → extent.from ≡ f.from → extent.length ≡ length f.is.bytes → Remembers records old images
     → fits ≡ image_fits (built old.site images stored) w → fits ≡ true → record_named w.id old.catalogue ≡ None → taken ≡ whole_entry old.site.book w → new.site ≡ record (old.site) { book = client_sealed taken.id.client taken.id.time old.site.book } → new.catalogue ≡ with_record taken old.catalogue → Adds taken.id extent old.extents new.extents
     → Reaches records (apply (built old.site images stored) f.is) new
 image_taken records images stored f w extent taken fits old new among is length_is from size remembers fits_is good lacking taken_is site catalogue adds = record {
@@ -121,11 +121,11 @@ settled_by-with s line = read (result_ok (read_line line))
     read (Some request) = at request (is_setting request) (bytes_eq (line_of request) line)
 
 -- a line that is no request of settings
-pub no_setting : (records : List Found) (s : State) (line : List ℕ) (known : Known) → setting_of line ≡ None → IsReached records (settled_by s line) known false
-no_setting records s line known none = settled_by-with s line ∙ ap (settled_with s) none
+pub no_setting : (records : List Found) (s : State) (line : List ℕ) (index : Index) → setting_of line ≡ None → IsReached records (settled_by s line) index false
+no_setting records s line index none = settled_by-with s line ∙ ap (settled_with s) none
 
 -- the request of a line was carried out, or refused
-pub line_settled : (records : List Found) (images : List Image) (stored : List Stored) (line : List ℕ) (request : Request) (refusal : Option Answer) (done : Bool) (old new : Known) → setting_of line ≡ Some request → is_some refusal ≡ not done → IsSet (built old.site images stored) request old new refusal → Remembers records new images
+pub line_settled : (records : List Found) (images : List Image) (stored : List Stored) (line : List ℕ) (request : Request) (refusal : Option Answer) (done : Bool) (old new : Index) → setting_of line ≡ Some request → is_some refusal ≡ not done → IsSet (built old.site images stored) request old new refusal → Remembers records new images
     → IsReached records (settled_by (built old.site images stored) line) new done
 line_settled records images stored line request refusal done old new is done_is set remembers = at refusal done refl done_is
   where
@@ -149,37 +149,37 @@ line_settled records images stored line request refusal done old new is done_is 
 pub applied_settings : (s : State) (f : Found) (p : Placed) (lines read : List (List ℕ)) → placed_of f ≡ p → p.entry ≡ entry.Settings lines → read ≡ lines → settled s read ≡ apply s f.is
 applied_settings s f p lines read is entry_is read_is = ap (λ (l : List (List ℕ)). settled s l) read_is ∙ sym (ap (λ (e : Entry). apply_entry s e f.is.bytes) (entry_of f p is ∙ entry_is))
 
--- the lines so far were settled, and of the state that they make this is known
-pub record SettledSoFar (records : List Found) (all : Option State) (rest : List (List ℕ)) (known : Known) : Type 0 where
+-- the lines so far were settled, and this is the index of the state that they make
+pub record SettledSoFar (records : List Found) (all : Option State) (rest : List (List ℕ)) (index : Index) : Type 0 where
   pub images : List Image
   pub stored : List Stored
-  pub so_far : all ≡ settled (built known.site images stored) rest
-  pub remembers : Remembers records known images
+  pub so_far : all ≡ settled (built index.site images stored) rest
+  pub remembers : Remembers records index images
 
 module _ (records : List Found) (all : Option State) (lines : List (List ℕ)) (i : ℕ) where
-  with_line : (item line : List ℕ) (known : Known) (far : SettledSoFar records all (drop i lines) known) → i < length lines → item ≡ get_or lines i item → line ≡ item → all ≡ option_and_then (λ t. settled t (drop (i + 1) lines)) (settled_by (built known.site far.images far.stored) line)
-  with_line item line known far lt is same = far.so_far ∙ at_drop_more (settled (built known.site far.images far.stored)) lines i item lt ∙ ap (λ (l : List ℕ). settled (built known.site far.images far.stored) (l ∷ drop (i + 1) lines)) (sym is ∙ sym same)
+  with_line : (item line : List ℕ) (index : Index) (far : SettledSoFar records all (drop i lines) index) → i < length lines → item ≡ get_or lines i item → line ≡ item → all ≡ option_and_then (λ t. settled t (drop (i + 1) lines)) (settled_by (built index.site far.images far.stored) line)
+  with_line item line index far lt is same = far.so_far ∙ at_drop_more (settled (built index.site far.images far.stored)) lines i item lt ∙ ap (λ (l : List ℕ). settled (built index.site far.images far.stored) (l ∷ drop (i + 1) lines)) (sym is ∙ sym same)
 
-  pub next_settled : (item line : List ℕ) (known known' : Known) (done : Bool) (far : SettledSoFar records all (drop i lines) known) → i < length lines → item ≡ get_or lines i item → line ≡ item → done ≡ true → IsReached records (settled_by (built known.site far.images far.stored) line) known' done → SettledSoFar records all (drop (i + 1) lines) known'
-  next_settled item line known known' done far lt is same good reached =
-      let next : Reaches records (settled_by (built known.site far.images far.stored) line) known' = subst (IsReached records (settled_by (built known.site far.images far.stored) line) known') good reached in
+  pub next_settled : (item line : List ℕ) (index index' : Index) (done : Bool) (far : SettledSoFar records all (drop i lines) index) → i < length lines → item ≡ get_or lines i item → line ≡ item → done ≡ true → IsReached records (settled_by (built index.site far.images far.stored) line) index' done → SettledSoFar records all (drop (i + 1) lines) index'
+  next_settled item line index index' done far lt is same good reached =
+      let next : Reaches records (settled_by (built index.site far.images far.stored) line) index' = subst (IsReached records (settled_by (built index.site far.images far.stored) line) index') good reached in
       record {
         images = next.images;
         stored = next.stored;
-        so_far = with_line item line known far lt is same ∙ ap (option_and_then (λ t. settled t (drop (i + 1) lines))) next.made;
+        so_far = with_line item line index far lt is same ∙ ap (option_and_then (λ t. settled t (drop (i + 1) lines))) next.made;
         remembers = next.remembers;
       }
 
-  pub unsettled : (item line : List ℕ) (known known' : Known) (done : Bool) (far : SettledSoFar records all (drop i lines) known) → i < length lines → item ≡ get_or lines i item → line ≡ item → done ≡ false → IsReached records (settled_by (built known.site far.images far.stored) line) known' done → all ≡ None
-  unsettled item line known known' done far lt is same failed reached =
-      with_line item line known far lt is same ∙ ap (option_and_then (λ t. settled t (drop (i + 1) lines))) (subst (IsReached records (settled_by (built known.site far.images far.stored) line) known') failed reached)
+  pub unsettled : (item line : List ℕ) (index index' : Index) (done : Bool) (far : SettledSoFar records all (drop i lines) index) → i < length lines → item ≡ get_or lines i item → line ≡ item → done ≡ false → IsReached records (settled_by (built index.site far.images far.stored) line) index' done → all ≡ None
+  unsettled item line index index' done far lt is same failed reached =
+      with_line item line index far lt is same ∙ ap (option_and_then (λ t. settled t (drop (i + 1) lines))) (subst (IsReached records (settled_by (built index.site far.images far.stored) line) index') failed reached)
 
-  pub all_settled : (known : Known) → length lines ≤ i → SettledSoFar records all (drop i lines) known → Reaches records all known
-  all_settled known past far = record { images = far.images; stored = far.stored; made = far.so_far ∙ at_drop_all (settled (built known.site far.images far.stored)) lines i past; remembers = far.remembers }
+  pub all_settled : (index : Index) → length lines ≤ i → SettledSoFar records all (drop i lines) index → Reaches records all index
+  all_settled index past far = record { images = far.images; stored = far.stored; made = far.so_far ∙ at_drop_all (settled (built index.site far.images far.stored)) lines i past; remembers = far.remembers }
 
 -- Records.
 
--- the record at an index
+-- the record at a position
 record_at : (records : List Found) (i : ℕ) (p : Placed) → i < length (placed records) → p ≡ get_or (placed records) i p → (f : Found) × (drop i records ≡ f ∷ drop (i + 1) records) × (placed_of f ≡ p) × Contains records f
 record_at [] i p lt is = absurd (omega arith)
 record_at (f ∷ records) zero p lt is = (f, ap (λ (l : List Found). f ∷ l) (sym (drop-one f records)), sym is, (0, omega arith, refl))
@@ -195,54 +195,54 @@ applied_any : (a b : ℕ) (s : State) (fs : List Found) → applied_from a (Some
 applied_any a b s [] = refl
 applied_any a b s (f ∷ fs) = refl
 
--- of the state that the records up to an index make this is known
-pub record SoFar (records : List Found) (known : Known) (i : ℕ) : Type 0 where
+-- this is the index of the state that the records up to a position make
+pub record SoFar (records : List Found) (index : Index) (i : ℕ) : Type 0 where
   pub images : List Image
   pub stored : List Stored
-  pub so_far : applied initial records ≡ applied_from 0 (Some (built known.site images stored)) (drop i records)
-  pub remembers : Remembers records known images
+  pub so_far : applied initial records ≡ applied_from 0 (Some (built index.site images stored)) (drop i records)
+  pub remembers : Remembers records index images
 
 -- before the first record
-pub nothing_yet : (records : List Found) (known : Known) → known.site ≡ initial_site → Remembers records known [] → SoFar records known 0
-nothing_yet records known site remembers = record {
+pub nothing_yet : (records : List Found) (index : Index) → index.site ≡ initial_site → Remembers records index [] → SoFar records index 0
+nothing_yet records index site remembers = record {
   images = [];
   stored = initial.stored;
   so_far = ap (λ (s : Site). applied_from 0 (Some (built s [] initial.stored)) records) (sym site);
   remembers = remembers;
 }
 
-module _ (records : List Found) (known known' : Known) (i : ℕ) (p : Placed) (done : Bool) (far : SoFar records known i) (lt : i < length (placed records)) (is : p ≡ get_or (placed records) i p)
-    (reached : (f : Found) → Contains records f → placed_of f ≡ p → IsReached records (apply (built known.site far.images far.stored) f.is) known' done) where
+module _ (records : List Found) (index index' : Index) (i : ℕ) (p : Placed) (done : Bool) (far : SoFar records index i) (lt : i < length (placed records)) (is : p ≡ get_or (placed records) i p)
+    (reached : (f : Found) → Contains records f → placed_of f ≡ p → IsReached records (apply (built index.site far.images far.stored) f.is) index' done) where
   abbrev here : (f : Found) × (drop i records ≡ f ∷ drop (i + 1) records) × (placed_of f ≡ p) × Contains records f
   here = record_at records i p lt is
 
-  at_record : applied initial records ≡ applied_from here.0.at (apply (built known.site far.images far.stored) here.0.is) (drop (i + 1) records)
-  at_record = far.so_far ∙ ap (λ (l : List Found). applied_from 0 (Some (built known.site far.images far.stored)) l) here.1
+  at_record : applied initial records ≡ applied_from here.0.at (apply (built index.site far.images far.stored) here.0.is) (drop (i + 1) records)
+  at_record = far.so_far ∙ ap (λ (l : List Found). applied_from 0 (Some (built index.site far.images far.stored)) l) here.1
 
   -- the next record doesn't fit
   pub unfit_at : done ≡ false → applied initial records ≡ Err p.at
   unfit_at failed =
       at_record
-      ∙ ap (λ (o : Option State). applied_from here.0.at o (drop (i + 1) records)) (subst (IsReached records (apply (built known.site far.images far.stored) here.0.is) known') failed (reached here.0 here.3 here.2))
+      ∙ ap (λ (o : Option State). applied_from here.0.at o (drop (i + 1) records)) (subst (IsReached records (apply (built index.site far.images far.stored) here.0.is) index') failed (reached here.0 here.3 here.2))
       ∙ ap (λ (q : Placed). Err q.at) here.2
 
   -- it does
-  pub fit_at : done ≡ true → SoFar records known' (i + 1)
+  pub fit_at : done ≡ true → SoFar records index' (i + 1)
   fit_at good =
-      let next : Reaches records (apply (built known.site far.images far.stored) here.0.is) known' = subst (IsReached records (apply (built known.site far.images far.stored) here.0.is) known') good (reached here.0 here.3 here.2) in
+      let next : Reaches records (apply (built index.site far.images far.stored) here.0.is) index' = subst (IsReached records (apply (built index.site far.images far.stored) here.0.is) index') good (reached here.0 here.3 here.2) in
       record {
         images = next.images;
         stored = next.stored;
         so_far = at_record ∙ ap (λ (o : Option State). applied_from here.0.at o (drop (i + 1) records)) next.made
-            ∙ applied_any here.0.at 0 (built known'.site next.images next.stored) (drop (i + 1) records);
+            ∙ applied_any here.0.at 0 (built index'.site next.images next.stored) (drop (i + 1) records);
         remembers = next.remembers;
       }
 
 -- all records were replayed
-pub all_replayed : (records : List Found) (known : Known) (i : ℕ) → length (placed records) ≤ i → SoFar records known i → Makes known records
-all_replayed records known i past far = record {
+pub all_replayed : (records : List Found) (index : Index) (i : ℕ) → length (placed records) ≤ i → SoFar records index i → Makes index records
+all_replayed records index i past far = record {
   images = far.images;
   stored = far.stored;
-  made = far.so_far ∙ ap (λ (l : List Found). applied_from 0 (Some (built known.site far.images far.stored)) l) (drop_all i records (omega (arith, length-map records placed_of)));
+  made = far.so_far ∙ ap (λ (l : List Found). applied_from 0 (Some (built index.site far.images far.stored)) l) (drop_all i records (omega (arith, length-map records placed_of)));
   remembers = far.remembers;
 }

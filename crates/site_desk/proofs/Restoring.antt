@@ -1,27 +1,36 @@
 -- A restore.
-use Rattle.std.proofs.Common.{◌≡◌, inl, ⊎_elim, ℕ, List, length, Some, None, refl, sym, ◌∙◌, ap, subst}
-use Rattle.std.specs.Prelude.{Option, Contains}
+use Rattle.std.proofs.Common.{◌≡◌, ◌≢◌, inl, ℕ, true, List, [], length, map, Some, None, refl, sym, ◌∙◌, ap, subst}
+use Rattle.std.specs.Prelude.{Option, is_some, Contains}
+use Rattle.site_types.specs.Classes.{RequestClass, class_of, restore}
 use Rattle.site_types.specs.declared.answer.Answer.{Answer}
-use Rattle.site_types.specs.declared.answer.Answer.TheVariants.{Done, OutOfMemory, Unknown, TooMany, DiskFault}
+use Rattle.site_types.specs.declared.answer.Answer.TheVariants.{Done, DiskFault}
 use Rattle.site_types.specs.declared.id.BackupId.{BackupId}
-use Rattle.site_types.specs.declared.request.Request.TheVariants.{Restore}
+use Rattle.site_types.specs.declared.image.ImageRecord.{ImageRecord}
+use Rattle.site_types.specs.declared.request.Request.{Request}
 use Rattle.vault_disk.specs.Disk.{Disk, Now}
 use Rattle.vault_disk.specs.Steps.{LookedAround, Rests}
-use Rattle.vault_disk.proofs.Moments.{weaker, started}
+use Rattle.vault_disk.proofs.Moments.{weaker}
 use Rattle.pool_journal.specs.Records.{Found, reading}
-use Rattle.desk_model.specs.State.{State, Image, image_named}
-use Rattle.desk_model.specs.Refusals.{first_refusal, unless_refused}
-use Rattle.desk_model.specs.Step.{step, restore_refusals, bytes_of}
+use Rattle.image_catalogue.specs.Images.{record_named}
+use Rattle.desk_model.specs.State.{State, Image, Stored, image_named}
+use Rattle.desk_model.specs.Refusals.{first_refusal, unless_refused, step_of}
+use Rattle.desk_model.specs.Step.{case_of, step, restore_refusals, bytes_of}
+use Rattle.desk_rules.specs.declared.decision.Decision.{Decision}
+use Rattle.desk_rules.specs.Decisions.{IsDecision}
+use Rattle.desk_rules.specs.Seen.{blank, seen}
+use Rattle.desk_rules.proofs.SeenLemmas.{entries_seen}
 use Rattle.site_desk.specs.Stands.{stood, Standing, StandsFor, Between}
 use Rattle.site_desk.specs.Extents.{extent_of, IsKeptAt, IsKept}
-use Rattle.site_desk.specs.Known.{built}
+use Rattle.site_desk.specs.Index.{built, Remembers}
 use Rattle.site_desk.specs.Desk.{desk_state, images_in, stored_in, Kept, IsDone, Answered, Moved, reached}
-use Rattle.site_desk.specs.Restores.{IsRefusedAs, IsRestoreRefusal}
-use Rattle.site_desk.specs.Steps.{Steps}
+use Rattle.site_desk.specs.Steps.{Steps, IsRefused, IsStepRefusal}
 use Rattle.site_desk.specs.declared.extents.Extent.{Extent}
-use Rattle.site_desk.specs.declared.known.Known.{Known}
+use Rattle.site_desk.specs.declared.index.Index.{Index}
 use Rattle.site_desk.proofs.Standings.{standing, still_kept}
 use Rattle.site_desk.proofs.States.{state_is}
+use Rattle.site_desk.proofs.Admitting.{has_entry}
+use Rattle.site_desk.proofs.ExtentLemmas.{has_named}
+use Rattle.site_desk.proofs.Deciding.{Decided, decided_on, decided_seen, refused_so, some_so, done_none, step_so}
 
 looked_between : (s t : State) (old new : Disk) → Standing old s → LookedAround old new → Between s t old new
 looked_between s t old new stands_now looked = record {
@@ -29,85 +38,89 @@ looked_between s t old new stands_now looked = record {
   during = weaker old new (Now old) (λ c b. StandsFor s t c × (b ≡ old.sent)) (λ c b now. (inl (stands_now.each c now.0), now.1)) looked.during;
 }
 
-module _ (id : BackupId) (copy : Option ℕ) (payload : List ℕ) (moment : ℕ) where
-  stays : (s : State) (o : Option Answer) (a : Answer) → (unless_refused s o (a, s)).1 ≡ s
-  stays s None a = refl
-  stays s (Some r) a = refl
+-- What a decision says.
+module _ (request : Request) (id : BackupId) (payload : List ℕ) (moment : ℕ) (restores : (copy : Option ℕ) × (class_of request ≡ restore id copy)) where
+  abbrev class : RequestClass
+  class = restore id restores.0
 
-  step_stays : (s : State) → (step s (Restore id copy) payload moment).1 ≡ s
-  step_stays s = stays s (first_refusal (restore_refusals (image_named id s.images) id copy)) (Done (bytes_of (image_named id s.images)))
+  pub step_stays : (s : State) → (step s request payload moment).1 ≡ s
+  step_stays s = ap (λ (c : RequestClass). (step_of s (case_of s c payload moment)).1) restores.1 ∙ stays (first_refusal (case_of s class payload moment).refusals)
+    where
+      stays : (o : Option Answer) → (unless_refused s o (Done (bytes_of (image_named id s.images)), s)).1 ≡ s
+      stays None = refl
+      stays (Some a) = refl
 
-  refused_step : (s : State) (a : Answer) → first_refusal (restore_refusals (image_named id s.images) id copy) ≡ Some a → (step s (Restore id copy) payload moment).0 ≡ a
-  refused_step s a is = ap (λ (o : Option Answer). (unless_refused s o (Done (bytes_of (image_named id s.images)), s)).0) is
+  module _ (index : Index) (size : ℕ) (d : Decision) (size_is : length payload ≡ size) (decided : Decided index request size moment d) where
+    refused_on : (s : State) → IsDecision s request payload moment d → ((body : List ℕ) → d.answer ≢ Done body) → IsStepRefusal d.answer × IsRefused s request payload moment d.answer
+    refused_on s here other = refused_so s request class payload moment d restores.1 here d.answer (some_so s request class payload moment d restores.1 here (λ answer_is change_is. other [] answer_is))
 
-  done_step : (s : State) → first_refusal (restore_refusals (image_named id s.images) id copy) ≡ None → (step s (Restore id copy) payload moment).0 ≡ Done (bytes_of (image_named id s.images))
-  done_step s is = ap (λ (o : Option Answer). (unless_refused s o (Done (bytes_of (image_named id s.images)), s)).0) is
+    pub refusal_plain : ((body : List ℕ) → d.answer ≢ Done body) → IsStepRefusal d.answer
+    refusal_plain other = (refused_on (seen index.site index.catalogue) (decided_seen index request payload size moment d size_is decided) other).0
 
-  refusal_answered : (s : State) (a : Answer) → IsRestoreRefusal a → IsRefusedAs (first_refusal (restore_refusals (image_named id s.images) id copy)) a → Answered s (Restore id copy) payload moment a
-  refusal_answered s OutOfMemory plain refused = tt
-  refusal_answered s (Unknown name) plain refused = ⊎_elim (λ is. sym (refused_step s (Unknown name) is)) (λ is. absurd (cc is)) refused
-  refusal_answered s (TooMany kind count limit) plain refused = ⊎_elim (λ is. sym (refused_step s (TooMany kind count limit) is)) (λ is. absurd (cc is)) refused
-  refusal_answered s _ plain refused = absurd plain
+    -- the image is there, and so is the extent of its bytes
+    pub placed_here : (body : List ℕ) → d.answer ≡ Done body → is_some (extent_of id index.extents) ≡ true
+    placed_here body done =
+        let images : List Image = map blank index.catalogue in
+        index.placed id ∙ ap (λ (l : List ImageRecord). is_some (record_named id l)) (sym (entries_seen index.catalogue)) ∙ has_entry id images ∙ has_named id images
+        ∙ there (image_named id images) (done_none (seen index.site index.catalogue) request class payload moment d restores.1 (decided_seen index request payload size moment d size_is decided) body done)
+      where
+        there : (o : Option Image) → first_refusal (restore_refusals o id restores.0) ≡ None → is_some o ≡ true
+        there None is = absurd (cc is)
+        there (Some image) is = refl
 
-  refusal_moved : (s : State) (a : Answer) → IsRestoreRefusal a → Moved s (Restore id copy) payload moment a s
-  refusal_moved s OutOfMemory plain = refl
-  refusal_moved s (Unknown name) plain = sym (step_stays s)
-  refusal_moved s (TooMany kind count limit) plain = sym (step_stays s)
-  refusal_moved s _ plain = absurd plain
+    module _ (records : List Found) (images : List Image) (stored : List Stored) (remembers : Remembers records index images) where
+      abbrev s : State
+      s = built index.site images stored
 
--- a disk that is looked at by nothing
-looked_nowhere : (d : Disk) → LookedAround d d
-looked_nowhere d = record { rests = record { seen = λ f. refl; left = λ c left. left }; during = started d (Now d) }
+      here : IsDecision s request payload moment d
+      here = decided_on index request payload size moment d size_is decided images stored remembers.listed remembers.sized
+
+      pub refused_here : ((body : List ℕ) → d.answer ≢ Done body) → IsRefused s request payload moment d.answer
+      refused_here other = (refused_on s here other).1
+
+      pub done_here : (body : List ℕ) → d.answer ≡ Done body → (step s request payload moment).0 ≡ Done (bytes_of (image_named id images))
+      done_here body done = ap (λ (p : Answer × State). p.0) (step_so s request class payload moment d restores.1 here (done_none s request class payload moment d restores.1 here body done))
 
 -- a desk that kept a state, whose vault was looked around
-module _ (old new : Disk) (end : ℕ) (known : Known) (kept : Kept old end known) where
+module _ (old new : Disk) (end : ℕ) (index : Index) (kept : Kept old end index) where
   abbrev start : State
-  start = built known.site kept.images kept.stored
+  start = built index.site kept.images kept.stored
 
-  start_is : desk_state old known.site ≡ start
-  start_is = state_is old end known kept
+  start_is : desk_state old index.site ≡ start
+  start_is = state_is old end index kept
 
   stands_now : Standing old start
   stands_now = standing old end start kept.kept refl
 
-  pub kept_on : Rests old new → Kept new end known
+  pub kept_on : Rests old new → Kept new end index
   kept_on rests = record { images = kept.images; stored = kept.stored; kept = still_kept old new end start rests kept.kept; remembers = kept.remembers }
 
-  same_state : LookedAround old new → desk_state new known.site ≡ start
-  same_state looked = ap (λ (bytes : List ℕ). built known.site (images_in (stood (reading bytes))) (stored_in (stood (reading bytes)))) (looked.rests.seen 0) ∙ start_is
+  same_state : LookedAround old new → desk_state new index.site ≡ start
+  same_state looked = ap (λ (bytes : List ℕ). built index.site (images_in (stood (reading bytes))) (stored_in (stood (reading bytes)))) (looked.rests.seen 0) ∙ start_is
 
-  module _ (id : BackupId) (copy : Option ℕ) (payload : List ℕ) (moment : ℕ) where
+  module _ (request : Request) (id : BackupId) (payload : List ℕ) (moment : ℕ) (restores : (copy : Option ℕ) × (class_of request ≡ restore id copy)) (done : (step start request payload moment).0 ≡ Done (bytes_of (image_named id kept.images))) where
     -- the state stays, whatever it is answered
-    stays_steps : (a : Answer) → LookedAround old new → Answered start (Restore id copy) payload moment a → Moved start (Restore id copy) payload moment a start → Steps (desk_state old known.site) (Restore id copy) payload moment a old new (desk_state new known.site)
+    stays_steps : (a : Answer) → LookedAround old new → Answered start request payload moment a → Moved start request payload moment a start → Steps (desk_state old index.site) request payload moment a old new (desk_state new index.site)
     stays_steps a looked answers moves =
-        subst (λ (s : State). Steps s (Restore id copy) payload moment a old new (desk_state new known.site)) (sym start_is)
-        (subst (λ (t : State). Steps start (Restore id copy) payload moment a old new t) (sym (same_state looked)) (record {
+        subst (λ (s : State). Steps s request payload moment a old new (desk_state new index.site)) (sym start_is)
+        (subst (λ (t : State). Steps start request payload moment a old new t) (sym (same_state looked)) (record {
           answers = answers;
           moves = moves;
           standing = λ other. record { each = λ c left. stands_now.each c (looked.rests.left c left) };
-          stops = looked_between start (reached start (Restore id copy) payload moment a) old new stands_now looked;
+          stops = looked_between start (reached start request payload moment a) old new stands_now looked;
         }))
 
-    pub memory_steps : LookedAround old new → Steps (desk_state old known.site) (Restore id copy) payload moment OutOfMemory old new (desk_state new known.site)
-    memory_steps looked = stays_steps OutOfMemory looked tt refl
-
-    pub fault_steps : LookedAround old new → first_refusal (restore_refusals (image_named id kept.images) id copy) ≡ None → Steps (desk_state old known.site) (Restore id copy) payload moment DiskFault old new (desk_state new known.site)
-    fault_steps looked none = stays_steps DiskFault looked (subst IsDone (sym (done_step id copy payload moment start none)) tt) tt
+    pub fault_steps : LookedAround old new → Steps (desk_state old index.site) request payload moment DiskFault old new (desk_state new index.site)
+    fault_steps looked = stays_steps DiskFault looked (subst IsDone (sym done) tt) tt
 
     kept_at : (extent : Extent) (e : Option Extent) (o : Option Image) → e ≡ Some extent → IsKept kept.kept.records e o → (image : Image) × (o ≡ Some image) × IsKeptAt kept.kept.records extent image
     kept_at extent None o is kept_so = absurd (cc is)
     kept_at extent (Some x) None is kept_so = absurd kept_so
     kept_at extent (Some x) (Some i) is kept_so = (i, refl, subst (λ (y : Extent). IsKeptAt kept.kept.records y i) (cc is) kept_so)
 
-    pub given_steps : (extent : Extent) (body : List ℕ) → LookedAround old new → first_refusal (restore_refusals (image_named id kept.images) id copy) ≡ None → extent_of id known.extents ≡ Some extent
-        → ((f : Found) → Contains kept.kept.records f → extent.from ≡ f.from → extent.length ≡ length f.is.bytes → body ≡ f.is.bytes) → Steps (desk_state old known.site) (Restore id copy) payload moment (Done body) old new (desk_state new known.site)
-    given_steps extent body looked none there read =
-        let here = kept_at extent (extent_of id known.extents) (image_named id kept.images) there (kept.remembers.catalogued id) in
+    pub given_steps : (extent : Extent) (body : List ℕ) → LookedAround old new → extent_of id index.extents ≡ Some extent → ((f : Found) → Contains kept.kept.records f → extent.from ≡ f.from → extent.length ≡ length f.is.bytes → body ≡ f.is.bytes)
+        → Steps (desk_state old index.site) request payload moment (Done body) old new (desk_state new index.site)
+    given_steps extent body looked there read =
+        let here = kept_at extent (extent_of id index.extents) (image_named id kept.images) there (kept.remembers.catalogued id) in
         let at : IsKeptAt kept.kept.records extent here.0 = here.2 in
-        stays_steps (Done body) looked (ap Done (read at.place at.among at.from at.size ∙ sym at.bytes ∙ sym (ap bytes_of here.1)) ∙ sym (done_step id copy payload moment start none)) (sym (step_stays id copy payload moment start))
-
--- and one that refuses
-pub refused_restore : (disk : Disk) (end : ℕ) (known : Known) (kept : Kept disk end known) (id : BackupId) (copy : Option ℕ) (payload : List ℕ) (moment : ℕ) (a : Answer) → IsRestoreRefusal a → IsRefusedAs (first_refusal (restore_refusals (image_named id kept.images) id copy)) a
-    → Steps (desk_state disk known.site) (Restore id copy) payload moment a disk disk (desk_state disk known.site)
-refused_restore disk end known kept id copy payload moment a plain refused =
-    stays_steps disk disk end known kept id copy payload moment a (looked_nowhere disk) (refusal_answered id copy payload moment (built known.site kept.images kept.stored) a plain refused) (refusal_moved id copy payload moment (built known.site kept.images kept.stored) a plain)
+        stays_steps (Done body) looked (ap Done (read at.place at.among at.from at.size ∙ sym at.bytes ∙ sym (ap bytes_of here.1)) ∙ sym done) (sym (step_stays request id payload moment restores start))

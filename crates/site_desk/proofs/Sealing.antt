@@ -5,12 +5,13 @@ use Rattle.std.specs.Option.{option_map}
 use Rattle.std.specs.Str.{bytes_eq}
 use Rattle.std.proofs.lemmas.Bool.Decides.{nat_tests}
 use Rattle.std.proofs.lemmas.List.Elements.{Contains-append_left, Contains-push}
+use Rattle.site_types.specs.Classes.{RequestClass, site_change, site_file, backup, restore, class_of}
 use Rattle.site_types.specs.Limits.{last_moment}
 use Rattle.site_types.specs.declared.answer.Answer.{Answer}
 use Rattle.site_types.specs.declared.answer.Answer.TheVariants.{Done}
 use Rattle.site_types.specs.declared.image.Base.TheVariants as base
 use Rattle.site_types.specs.declared.request.Request.{Request}
-use Rattle.site_types.specs.declared.request.Request.TheVariants.{Backup}
+use Rattle.site_types.specs.declared.schedule.Start.{Start}
 use Rattle.pool_journal.specs.declared.entry.Entry.TheVariants as entry
 use Rattle.pool_journal.specs.declared.entry.WholeImage.{WholeImage}
 use Rattle.pool_journal.specs.Entries.{Record, spelled_entry, IsStaged}
@@ -20,25 +21,23 @@ use Rattle.policy_book.specs.Lists.{named, has}
 use Rattle.policy_book.specs.Book.{Policy, policy_name, client_limit, basic, adhoc}
 use Rattle.desk_model.specs.declared.site.Site.{Site}
 use Rattle.desk_model.specs.State.{State, Image, Stored, has_image}
-use Rattle.desk_model.specs.Refusals.{first_refusal, unless_refused}
-use Rattle.desk_model.specs.Backups.{Asked, asked_of, image_limit, takes_all, is_known, latest_version, policy_asked, backup_refusals, backup_done, backup_step, sealed}
-use Rattle.desk_model.specs.Step.{step}
+use Rattle.desk_model.specs.Refusals.{first_refusal}
+use Rattle.desk_model.specs.Backups.{Asked, asked_of, image_limit, takes_all, is_known, latest_version, policy_asked, backup_refusals, backup_done, sealed}
 use Rattle.desk_rules.specs.declared.decision.Change.TheVariants.{SealNow}
 use Rattle.desk_rules.specs.declared.decision.Decision.{Decision}
 use Rattle.desk_rules.specs.declared.decision.JobBody.{JobBody}
-use Rattle.desk_rules.specs.Decisions.{IsStateOf, IsDecision, unless, backup_body, backup_change}
+use Rattle.desk_rules.specs.Decisions.{IsDecision, backup_body}
 use Rattle.desk_rules.specs.Seen.{seen}
-use Rattle.desk_rules.proofs.SeenLemmas.{entries_seen}
 use Rattle.site_desk.specs.Stands.{apply, image_fits, whole_image, whole_unit}
-use Rattle.site_desk.specs.Known.{built, TimesBelow, IsWhole, Remembers}
+use Rattle.site_desk.specs.Index.{built, TimesBelow, IsWhole, Remembers}
 use Rattle.site_desk.specs.Replays.{Reaches, IsReached}
 use Rattle.site_desk.specs.Desk.{whole_of}
-use Rattle.site_desk.specs.Steps.{is_backup, IsTaken, IsReady, IsRefused, IsStepRefusal}
+use Rattle.site_desk.specs.Steps.{backs_up, is_backup, IsTaken, IsReady, IsRefused, IsStepRefusal}
 use Rattle.site_desk.specs.declared.extents.Extent.{Extent}
-use Rattle.site_desk.specs.declared.known.Known.{Known}
-use Rattle.site_desk.proofs.Knowing.{remembers_more}
+use Rattle.site_desk.specs.declared.index.Index.{Index}
+use Rattle.site_desk.proofs.IndexLemmas.{remembers_more}
 use Rattle.site_desk.proofs.NamedLemmas.{text_is}
-use Rattle.site_desk.proofs.Refusing.{refused_as, ArePlain, first_plain, sized_seen}
+use Rattle.site_desk.proofs.Deciding.{Decided, decided_on, decided_seen, refused_so, some_so, none_so, passed_so, step_so}
 
 -- Nothing refuses it.
 
@@ -81,7 +80,7 @@ version_there name lifecycles is there = subst (λ (ls : List Lifecycle). is_som
     at true some = refl
     at false some = absurd (cc some)
 
-client_there : (known takes : Bool) (count : ℕ) → (not takes && not known) ≡ false → (takes && not known && nat_le client_limit count) ≡ false → (known || (takes && nat_lt count client_limit)) ≡ true
+client_there : (there takes : Bool) (count : ℕ) → (not takes && not there) ≡ false → (takes && not there && nat_le client_limit count) ≡ false → (there || (takes && nat_lt count client_limit)) ≡ true
 client_there true takes count p q = refl
 client_there false true count p q = grind (arith, nat_tests, q)
 client_there false false count p q = absurd (cc p)
@@ -123,13 +122,13 @@ module _ (site : Site) (images : List Image) (stored : List Stored) (asked : Ask
       (λ i. if fits whole below early none i then Some (sealed (whole_image s w payload) (whole_unit s w) s) else None)
       ∙ ap (λ (n : ℕ). Some (sealed (whole_image s (record w { length = n }) payload) (whole_unit s w) s)) size
 
--- what is known once an image was taken in whose bytes stand there
-abbrev pub Takes : WholeImage → Extent → Known → Known → Bool → Type 0
+-- the index once an image was taken in whose bytes stand there
+abbrev pub Takes : WholeImage → Extent → Index → Index → Bool → Type 0
 Takes image extent old new done =
     (records : List Found) (images : List Image) (stored : List Stored) (f : Found) → Contains records f → f.is.entry ≡ entry.WholeImage image → image.length ≡ length f.is.bytes → extent.from ≡ f.from → extent.length ≡ length f.is.bytes → Remembers records old images
     → IsReached records (apply (built old.site images stored) f.is) new done
 
-module _ (records : List Found) (end : ℕ) (images : List Image) (stored : List Stored) (image : WholeImage) (payload : List ℕ) (extent : Extent) (old new : Known) (done : Bool) where
+module _ (records : List Found) (end : ℕ) (images : List Image) (stored : List Stored) (image : WholeImage) (payload : List ℕ) (extent : Extent) (old new : Index) (done : Bool) where
   abbrev row : Record
   row = record { entry = entry.WholeImage image; bytes = payload }
 
@@ -148,103 +147,85 @@ module _ (records : List Found) (end : ℕ) (images : List Image) (stored : List
         remembers = λ short. subst (λ (n : ℕ). Remembers (records ++ record { at = end; from = n; is = row } ∷ []) new reached.images) (from_is short) reached.remembers;
       }
 
--- What a decision on a backup says of a state.
-record Said (s : State) (request : Request) (payload : List ℕ) (moment : ℕ) (d : Decision) : Type 0 where
-  asked : Asked
-  size : asked.size ≡ length payload
-  steps : step s request payload moment ≡ backup_step asked payload moment s
-  answer : d.answer ≡ (backup_step asked payload moment s).0
-  change : d.change ≡ backup_change asked moment s
+-- What a decision says of a backup.
 
-said : (s : State) (request : Request) (payload : List ℕ) (moment : ℕ) (d : Decision) → is_backup request ≡ true → IsDecision s request payload moment d → Said s request payload moment d
-said s (Backup client policy schedule start) payload moment d is decided = record { asked = asked_of client policy schedule start (length payload); size = refl; steps = refl; answer = decided.0; change = decided.1 }
-said s request payload moment d is decided = absurd (cc is)
+record IsBackup (class : RequestClass) : Type 0 where
+  client : List ℕ
+  policy : Option (List ℕ)
+  schedule : Option (List ℕ)
+  start : Option Start
+  is : class ≡ backup client policy schedule start
 
-backup_plain : (asked : Asked) (moment : ℕ) (s : State) → ArePlain (backup_refusals asked moment s)
-backup_plain asked moment s = ((tt, tt), ((tt, tt), ((tt, tt), ((tt, tt), ((tt, tt), ((tt, tt), ((tt, tt), ((tt, tt), ((tt, tt), ((tt, tt), ((tt, tt), tt)))))))))))
+backup_class : (class : RequestClass) → backs_up class ≡ true → IsBackup class
+backup_class (backup client policy schedule start) is = record { client = client; policy = policy; schedule = schedule; start = start; is = refl }
+backup_class (site_change request) is = absurd (cc is)
+backup_class site_file is = absurd (cc is)
+backup_class (restore id copy) is = absurd (cc is)
 
-module _ (s : State) (request : Request) (payload : List ℕ) (moment : ℕ) (d : Decision) (says : Said s request payload moment d) where
-  abbrev first : Option Answer
-  first = first_refusal (backup_refusals says.asked moment s)
+module _ (index : Index) (request : Request) (payload : List ℕ) (size moment : ℕ) (d : Decision) (is : is_backup request ≡ true) (size_is : length payload ≡ size) (decided : Decided index request size moment d) where
+  abbrev asks : IsBackup (class_of request)
+  asks = backup_class (class_of request) is
+
+  abbrev class : RequestClass
+  class = backup asks.client asks.policy asks.schedule asks.start
+
+  abbrev asked : Asked
+  asked = asked_of asks.client asks.policy asks.schedule asks.start (length payload)
+
+  abbrev start : State
+  start = seen index.site index.catalogue
+
+  seen_so : IsDecision start request payload moment d
+  seen_so = decided_seen index request payload size moment d size_is decided
 
   -- no image is sealed: it is refused
-  refused_so : ((body : JobBody) → d.change ≢ SealNow body) → IsStepRefusal d.answer × IsRefused s request payload moment d.answer
-  refused_so other = at first refl
-    where
-      at : (o : Option Answer) → first ≡ o → IsStepRefusal d.answer × IsRefused s request payload moment d.answer
-      at None is = absurd (other (backup_body says.asked moment s) (says.change ∙ ap (λ (o : Option Answer). unless o (SealNow (backup_body says.asked moment s))) is))
-      at (Some a) is =
-          let done : Answer × State = backup_done says.asked payload moment s in
-          let answer_is : d.answer ≡ a = says.answer ∙ ap (λ (o : Option Answer). (unless_refused s o done).0) is in
-          let plain : IsStepRefusal d.answer = subst IsStepRefusal (sym answer_is) (first_plain (backup_refusals says.asked moment s) a (backup_plain says.asked moment s) is) in
-          (plain, refused_as s request payload moment d.answer plain.1 (says.steps ∙ ap (λ (o : Option Answer). unless_refused s o done) is ∙ ap (λ (x : Answer). (x, s)) (sym answer_is)))
+  refused_on : (s : State) → IsDecision s request payload moment d → ((body : JobBody) → d.change ≢ SealNow body) → IsStepRefusal d.answer × IsRefused s request payload moment d.answer
+  refused_on s here other = refused_so s request class payload moment d asks.is here d.answer (some_so s request class payload moment d asks.is here (λ answer_is change_is. other (backup_body asked moment s) change_is))
+
+  pub refusal_plain : ((body : JobBody) → d.change ≢ SealNow body) → IsStepRefusal d.answer
+  refusal_plain other = (refused_on start seen_so other).0
+
+  pub refused_here : ((body : JobBody) → d.change ≢ SealNow body) → (records : List Found) (images : List Image) (stored : List Stored) → Remembers records index images → IsRefused (built index.site images stored) request payload moment d.answer
+  refused_here other records images stored remembers =
+      (refused_on (built index.site images stored) (decided_on index request payload size moment d size_is decided images stored remembers.listed remembers.sized) other).1
 
   -- an image is sealed
   module _ (body : JobBody) (sealed_is : d.change ≡ SealNow body) where
-    sealed_so : (first ≡ None) × (body ≡ backup_body says.asked moment s)
-    sealed_so = at first refl
-      where
-        at : (o : Option Answer) → first ≡ o → (first ≡ None) × (body ≡ backup_body says.asked moment s)
-        at None is = (is, cc (sym sealed_is ∙ says.change ∙ ap (λ (o : Option Answer). unless o (SealNow (backup_body says.asked moment s))) is))
-        at (Some a) is = absurd (cc (sym sealed_is ∙ says.change ∙ ap (λ (o : Option Answer). unless o (SealNow (backup_body says.asked moment s))) is))
+    passed_on : (s : State) → IsDecision s request payload moment d → first_refusal (backup_refusals asked moment s) ≡ None
+    passed_on s here = none_so s request class payload moment d asks.is here (λ nothing. cc (sym sealed_is ∙ nothing))
 
-    steps_so : step s request payload moment ≡ backup_done says.asked payload moment s
-    steps_so = says.steps ∙ ap (λ (o : Option Answer). unless_refused s o (backup_done says.asked payload moment s)) sealed_so.0
+    body_on : (s : State) → IsDecision s request payload moment d → body ≡ backup_body asked moment s
+    body_on s here = cc (sym sealed_is ∙ (passed_so s request class payload moment d asks.is here (passed_on s here)).1)
 
-    answer_so : d.answer ≡ (backup_done says.asked payload moment s).0
-    answer_so = says.answer ∙ ap (λ (o : Option Answer). (unless_refused s o (backup_done says.asked payload moment s)).0) sealed_so.0
+    answer_on : (s : State) → IsDecision s request payload moment d → d.answer ≡ (backup_done asked payload moment s).0
+    answer_on s here = (passed_so s request class payload moment d asks.is here (passed_on s here)).0
 
-    length_so : (whole_of body moment).length ≡ length payload
-    length_so = ap (λ (b : JobBody). (whole_of b moment).length) sealed_so.1 ∙ says.size
-
-    base_so : (whole_of body moment).base ≡ base.None
-    base_so = ap (λ (b : JobBody). (whole_of b moment).base) sealed_so.1
-
--- What a decision says of a backup.
-
-abbrev pub Decided : Known → Request → ℕ → ℕ → Decision → Type 0
-Decided known request size moment d = (s : State) (bytes : List ℕ) → IsStateOf known.site known.catalogue s → length bytes ≡ size → IsDecision s request bytes moment d
-
-module _ (known : Known) (request : Request) (payload : List ℕ) (size moment : ℕ) (d : Decision) (backup : is_backup request ≡ true) (size_is : length payload ≡ size) (decided : Decided known request size moment d) where
-  said_seen : Said (seen known.site known.catalogue) request payload moment d
-  said_seen = said (seen known.site known.catalogue) request payload moment d backup (decided (seen known.site known.catalogue) payload (record { site_is = refl; images_are = entries_seen known.catalogue; sized = sized_seen known.catalogue; idle = refl }) size_is)
-
-  said_here : (records : List Found) (images : List Image) (stored : List Stored) → Remembers records known images → Said (built known.site images stored) request payload moment d
-  said_here records images stored remembers = said (built known.site images stored) request payload moment d backup (decided (built known.site images stored) payload (record { site_is = refl; images_are = remembers.listed; sized = remembers.sized; idle = refl }) size_is)
-
-  pub refusal_plain : ((body : JobBody) → d.change ≢ SealNow body) → IsStepRefusal d.answer
-  refusal_plain other = (refused_so (seen known.site known.catalogue) request payload moment d said_seen other).0
-
-  pub refused_here : ((body : JobBody) → d.change ≢ SealNow body) → (records : List Found) (images : List Image) (stored : List Stored) → Remembers records known images → IsRefused (built known.site images stored) request payload moment d.answer
-  refused_here other records images stored remembers = (refused_so (built known.site images stored) request payload moment d (said_here records images stored remembers) other).1
-
-  module _ (body : JobBody) (sealed_is : d.change ≡ SealNow body) where
     pub done_here : (line : List ℕ) × (d.answer ≡ Done line)
-    done_here = (_, answer_so (seen known.site known.catalogue) request payload moment d said_seen body sealed_is)
+    done_here = (_, answer_on start seen_so)
 
     pub length_here : (whole_of body moment).length ≡ length payload
-    length_here = length_so (seen known.site known.catalogue) request payload moment d said_seen body sealed_is
+    length_here = ap (λ (b : JobBody). (whole_of b moment).length) (body_on start seen_so)
 
     pub base_here : (whole_of body moment).base ≡ base.None
-    base_here = base_so (seen known.site known.catalogue) request payload moment d said_seen body sealed_is
+    base_here = ap (λ (b : JobBody). (whole_of b moment).base) (body_on start seen_so)
 
-    pub ready_here : (records : List Found) (images : List Image) (stored : List Stored) (end : ℕ) (image : WholeImage) (staged line : List ℕ) (new : Known) → Remembers records known images → moment ≤ last_moment → image ≡ whole_of body moment → d.answer ≡ Done line → IsStaged (record { entry = entry.WholeImage image; bytes = payload }) staged
-        → IsTaken records end (built known.site images stored) (record { entry = entry.WholeImage image; bytes = payload }) new → IsReady records end (built known.site images stored) request payload moment staged line new
+    pub ready_here : (records : List Found) (images : List Image) (stored : List Stored) (end : ℕ) (image : WholeImage) (staged line : List ℕ) (new : Index) → Remembers records index images → moment ≤ last_moment → image ≡ whole_of body moment → d.answer ≡ Done line → IsStaged (record { entry = entry.WholeImage image; bytes = payload }) staged
+        → IsTaken records end (built index.site images stored) (record { entry = entry.WholeImage image; bytes = payload }) new → IsReady records end (built index.site images stored) request payload moment staged line new
     ready_here records images stored end image staged line new remembers early image_is line_is staged_is taken =
-        let s : State = built known.site images stored in
-        let says : Said s request payload moment d = said_here records images stored remembers in
-        let sealed_now = sealed_so s request payload moment d says body sealed_is in
-        let row_is : whole_of (backup_body says.asked moment s) moment ≡ image = ap (λ (b : JobBody). whole_of b moment) (sym sealed_now.1) ∙ sym image_is in
-        let made : Some (built new.site taken.images taken.stored) ≡ Some (backup_done says.asked payload moment s).1 =
-        sym taken.applies ∙ ap (λ (w : WholeImage). apply s (record { entry = entry.WholeImage w; bytes = payload })) (sym row_is) ∙ applies known.site images stored says.asked moment payload says.size remembers.whole remembers.below early sealed_now.0 in
-        let state_is : (backup_done says.asked payload moment s).1 ≡ built new.site taken.images taken.stored = cc (sym made) in
-        let answer_is : (backup_done says.asked payload moment s).0 ≡ Done line = sym (answer_so s request payload moment d says body sealed_is) ∙ line_is in
+        let s : State = built index.site images stored in
+        let here : IsDecision s request payload moment d = decided_on index request payload size moment d size_is decided images stored remembers.listed remembers.sized in
+        let none = passed_on s here in
+        let row_is : whole_of (backup_body asked moment s) moment ≡ image = ap (λ (b : JobBody). whole_of b moment) (sym (body_on s here)) ∙ sym image_is in
+        let made : Some (built new.site taken.images taken.stored) ≡ Some (backup_done asked payload moment s).1 =
+        sym taken.applies ∙ ap (λ (w : WholeImage). apply s (record { entry = entry.WholeImage w; bytes = payload })) (sym row_is) ∙ applies index.site images stored asked moment payload refl remembers.whole remembers.below early none in
+        let state_is : (backup_done asked payload moment s).1 ≡ built new.site taken.images taken.stored = cc (sym made) in
+        let answer_is : (backup_done asked payload moment s).0 ≡ Done line = sym (answer_on s here) ∙ line_is in
         record {
           row = record { entry = entry.WholeImage image; bytes = payload };
           staged_is = staged_is;
           images = taken.images;
           stored = taken.stored;
           applies = taken.applies;
-          steps = steps_so s request payload moment d says body sealed_is ∙ (λ i. (answer_is i, state_is i));
+          steps = step_so s request class payload moment d asks.is here none ∙ (λ i. (answer_is i, state_is i));
           remembers = taken.remembers;
         }

@@ -1,71 +1,42 @@
--- What a request that changes the site leaves of what is known.
-use Rattle.std.proofs.Common.{◌≡◌, ◌∙◌, ◌≤◌, ℕ, Bool, true, false, List, [], ◌∷◌, ◌++◌, length, map, refl, sym, ap, subst}
-use Rattle.std.specs.Prelude.{Option, Some, None, cond, is_some, not, ◌||◌, ◌&&◌, ◌==◌, nat_le, if◌then◌else◌, codes, unwrap_or, Contains}
+-- What a request that changes the site makes of the index.
+use Rattle.std.proofs.Common.{◌≡◌, ◌≢◌, ◌∙◌, ◌≤◌, ℕ, Bool, true, false, List, [], ◌∷◌, length, map, refl, sym, ap, subst}
+use Rattle.std.specs.Prelude.{Option, Some, None, cond, is_some, not, ◌||◌, ◌&&◌, ◌==◌, nat_le, if◌then◌else◌, codes, unwrap_or}
 use Rattle.std.specs.Option.{option_map_or}
 use Rattle.std.specs.Str.{bytes_eq}
+use Rattle.site_types.specs.Classes.{site_change}
 use Rattle.site_types.specs.declared.answer.Answer.{Answer}
 use Rattle.site_types.specs.declared.id.BackupId.{BackupId}
 use Rattle.site_types.specs.declared.image.ImageRecord.{ImageRecord}
 use Rattle.site_types.specs.declared.request.Request.{Request}
-use Rattle.site_types.specs.declared.request.Request.TheVariants.{UnitAdd, UnitChange, ClientAdd, ClientRemove, PolicyAdd, PolicyChange, PolicyRemove, PolicyClientAdd, PolicyClientRemove, PolicySelect, PolicyUnselect, ScheduleAdd, ScheduleChange, ScheduleRemove, ZoneSet, Load, Backup, Restore}
+use Rattle.site_types.specs.declared.request.Request.TheVariants as request
 use Rattle.policy_book.specs.Lists.{named, has}
 use Rattle.policy_book.specs.Book.{Book, Policy, unit_name, client_name, policy_name, client_limit, policy_limit}
 use Rattle.policy_book.specs.declared.client.Client.{Client}
 use Rattle.policy_book.specs.Changes.{has_lifecycle, last_of, lister}
-use Rattle.policy_book.specs.Changes as changes
-use Rattle.policy_book.specs.Requests.{refusals_of}
-use Rattle.policy_book.specs.declared.fault.BookFault.{BookFault}
-use Rattle.image_catalogue.specs.Images.{same_id, first_of_client, record_named}
+use Rattle.image_catalogue.specs.Images.{same_id, first_of_client, record_named, with_record}
 use Rattle.pool_journal.specs.Records.{Found}
 use Rattle.desk_model.specs.declared.site.Site.{Site}
-use Rattle.desk_model.specs.State.{State, Image, Stored, entries, has_image}
-use Rattle.desk_model.specs.Refusals.{first_refusal, unless_refused}
-use Rattle.desk_model.specs.Settings.{is_setting, refusal_answer, use_refusals, setting_refusals, setting_step, site_after}
-use Rattle.desk_rules.specs.declared.decision.Change.TheVariants.{Settings}
+use Rattle.desk_model.specs.State.{State, Image, Stored, entries, has_image, with_image}
+use Rattle.desk_model.specs.Refusals.{first_refusal}
+use Rattle.desk_model.specs.Settings.{is_setting, setting_refusals, site_after}
+use Rattle.desk_rules.specs.declared.decision.Change.{Change}
+use Rattle.desk_rules.specs.declared.decision.Change.TheVariants.{Nothing, Settings, Load, SealNow}
+use Rattle.desk_rules.specs.declared.decision.SiteChange.{SiteChange}
 use Rattle.desk_rules.specs.declared.decision.Decision.{Decision}
-use Rattle.desk_rules.specs.Decisions.{IsStateOf, IsDecision, unless}
-use Rattle.site_desk.specs.Known.{built, IsWhole, TimesBelow, Remembers, IsSet, SameKnown, is_settings}
+use Rattle.desk_rules.specs.Decisions.{IsDecision, SetsSite}
+use Rattle.desk_rules.specs.SiteChanges.{IsSiteChange, site_made}
+use Rattle.desk_rules.specs.Seen.{blank}
+use Rattle.desk_rules.proofs.SeenLemmas.{entries_seen}
+use Rattle.site_desk.specs.Index.{built, IsWhole, TimesBelow, Remembers, IsSet, SameExtents}
 use Rattle.std.specs.BTreeMap.{is_at}
 use Rattle.site_desk.specs.Extents.{Catalogued, extent_of, id_cmp, Adds, Removes}
-use Rattle.site_desk.proofs.Admitting.{has_entry}
-use Rattle.site_desk.proofs.ExtentLemmas.{catalogued-has, at_same, same_is}
+use Rattle.site_desk.proofs.Admitting.{entries-with, has_entry, has_image-with}
+use Rattle.site_desk.proofs.Changing.{class_change}
+use Rattle.site_desk.proofs.Deciding.{none_so, some_so, passed_so}
+use Rattle.site_desk.proofs.ExtentLemmas.{at_same, same_is}
 use Rattle.site_desk.specs.declared.extents.Extent.{Extent}
-use Rattle.site_desk.specs.declared.known.Known.{Known}
+use Rattle.site_desk.specs.declared.index.Index.{Index}
 use Rattle.site_desk.proofs.NamedLemmas.{named-put, named-without, has-changed, each-put, each-changed, each-without, text_is}
-
--- What a decision says.
-
-as_setting : (s : State) (r : Request) (payload : List ℕ) (moment : ℕ) (d : Decision) → is_setting r ≡ true → IsDecision s r payload moment d → (d.answer ≡ (setting_step r s).0) × (d.change ≡ unless (first_refusal (setting_refusals r s)) Settings)
-as_setting s (UnitAdd name capacity segment fragment slots high low) payload moment d is h = h
-as_setting s (UnitChange name capacity slots high low) payload moment d is h = h
-as_setting s (ClientAdd name) payload moment d is h = h
-as_setting s (ClientRemove name) payload moment d is h = h
-as_setting s (PolicyAdd policy policy_type lifecycle) payload moment d is h = h
-as_setting s (PolicyChange policy active lifecycle) payload moment d is h = h
-as_setting s (PolicyRemove policy) payload moment d is h = h
-as_setting s (PolicyClientAdd policy client) payload moment d is h = h
-as_setting s (PolicyClientRemove policy client) payload moment d is h = h
-as_setting s (PolicySelect policy path) payload moment d is h = h
-as_setting s (PolicyUnselect policy path) payload moment d is h = h
-as_setting s (ScheduleAdd policy schedule kind frequency calendar windows) payload moment d is h = h
-as_setting s (ScheduleChange policy schedule kind frequency calendar windows) payload moment d is h = h
-as_setting s (ScheduleRemove policy schedule) payload moment d is h = h
-as_setting s (ZoneSet rule offset) payload moment d is h = h
-as_setting s Load payload moment d is h = absurd (cc is)
-as_setting s (Backup client policy schedule start) payload moment d is h = absurd (cc is)
-as_setting s (Restore id copy) payload moment d is h = absurd (cc is)
-
-taken : (o : Option Answer) (s : State) (done : Answer × State) (d : Decision) → d.change ≡ unless o Settings → is_settings d.change ≡ true → o ≡ None
-taken None s done d change_is is = refl
-taken (Some a) s done d change_is is = absurd (cc (sym (ap is_settings change_is) ∙ is))
-
-refused : (o : Option Answer) (s : State) (done : Answer × State) (d : Decision) → d.answer ≡ (unless_refused s o done).0 → d.change ≡ unless o Settings → is_settings d.change ≡ false → o ≡ Some d.answer
-refused None s done d answer_is change_is is = absurd (cc (sym (ap is_settings change_is) ∙ is))
-refused (Some a) s done d answer_is change_is is = ap Some (sym answer_is)
-
--- a state with these images
-pub state_of : (known : Known) (images : List Image) (stored : List Stored) → entries images ≡ known.catalogue → ((i : Image) → Contains images i → i.entry.length ≡ length i.bytes) → IsStateOf known.site known.catalogue (built known.site images stored)
-state_of known images stored listed sized = record { site_is = refl; images_are = listed; sized = sized; idle = refl }
 
 -- What no refusal says.
 
@@ -123,28 +94,13 @@ below_removed name book images none below id there = at (bytes_eq name id.client
     at false is = below id there
 
 below_after : (r : Request) (site : Site) (images : List Image) (stored : List Stored) → first_refusal (setting_refusals r (built site images stored)) ≡ None → TimesBelow site.book images → TimesBelow (site_after r site).book images
-below_after (ClientAdd name) site images stored passes below = λ id there.
+below_after (request.ClientAdd name) site images stored passes below = λ id there.
     let new : has client_name name site.book.clients ≡ false = second_false (nat_le client_limit (length site.book.clients)) (has client_name name site.book.clients) _ _ _ passes in
     subst (λ (o : Option Client). id.time ≤ last_in o) (sym (named-put client_name (record { name = name; last = 0 }) id.client site.book.clients)) (below_added name site.book images new below id there)
-below_after (ClientRemove name) site images stored passes below = λ id there.
+below_after (request.ClientRemove name) site images stored passes below = λ id there.
     let none : is_some (first_of_client name (entries images)) ≡ false = third_false (not (has client_name name site.book.clients)) (is_some (lister name site.book.policies)) (is_some (first_of_client name (entries images))) _ _ _ _ passes in
     subst (λ (o : Option Client). id.time ≤ last_in o) (sym (named-without client_name name id.client site.book.clients)) (below_removed name site.book images none below id there)
-below_after (UnitAdd name capacity segment fragment slots high low) site images stored passes below = below
-below_after (UnitChange name capacity slots high low) site images stored passes below = below
-below_after (PolicyAdd policy policy_type lifecycle) site images stored passes below = below
-below_after (PolicyChange policy active lifecycle) site images stored passes below = below
-below_after (PolicyRemove policy) site images stored passes below = below
-below_after (PolicyClientAdd policy client) site images stored passes below = below
-below_after (PolicyClientRemove policy client) site images stored passes below = below
-below_after (PolicySelect policy path) site images stored passes below = below
-below_after (PolicyUnselect policy path) site images stored passes below = below
-below_after (ScheduleAdd policy schedule kind frequency calendar windows) site images stored passes below = below
-below_after (ScheduleChange policy schedule kind frequency calendar windows) site images stored passes below = below
-below_after (ScheduleRemove policy schedule) site images stored passes below = below
-below_after (ZoneSet rule offset) site images stored passes below = below
-below_after Load site images stored passes below = below
-below_after (Backup client policy schedule start) site images stored passes below = below
-below_after (Restore id copy) site images stored passes below = below
+below_after r site images stored passes below = below
 
 -- The lifecycles of the policies.
 
@@ -168,81 +124,75 @@ changes_lifecycle None book p there under = under
 changes_lifecycle (Some l) book p there under = not_so (has_lifecycle l book) there
 
 whole_after : (r : Request) (site : Site) (images : List Image) (stored : List Stored) → first_refusal (setting_refusals r (built site images stored)) ≡ None → IsWhole site.book → IsWhole (site_after r site).book
-whole_after (UnitAdd name capacity segment fragment slots high low) site images stored passes whole = record {
+whole_after (request.UnitAdd name capacity segment fragment slots high low) site images stored passes whole = record {
   lifecycles = whole.lifecycles;
   unit = ap is_some (named-put unit_name _ (codes "disk0") site.book.units) ∙ some_of (bytes_eq name (codes "disk0")) _ (named unit_name (codes "disk0") site.book.units) ∙ added_true (bytes_eq name (codes "disk0")) (has unit_name (codes "disk0") site.book.units) whole.unit;
   policies = whole.policies;
 }
-whole_after (UnitChange name capacity slots high low) site images stored passes whole = record {
+whole_after (request.UnitChange name capacity slots high low) site images stored passes whole = record {
   lifecycles = whole.lifecycles;
   unit = has-changed unit_name name _ (λ u. refl) (codes "disk0") site.book.units ∙ whole.unit;
   policies = whole.policies;
 }
-whole_after (ClientAdd name) site images stored passes whole = record { lifecycles = whole.lifecycles; unit = whole.unit; policies = whole.policies }
-whole_after (ClientRemove name) site images stored passes whole = record { lifecycles = whole.lifecycles; unit = whole.unit; policies = whole.policies }
-whole_after (PolicyAdd policy policy_type lifecycle) site images stored passes whole =
+whole_after (request.PolicyAdd policy policy_type lifecycle) site images stored passes whole =
     let there : not (has_lifecycle lifecycle site.book) ≡ false = third_false (nat_le policy_limit (length site.book.policies)) (has policy_name policy site.book.policies) (not (has_lifecycle lifecycle site.book)) _ _ _ _ passes in
     record { lifecycles = whole.lifecycles; unit = whole.unit; policies = each-put policy_name (IsUnder site.book) _ site.book.policies (not_so (has_lifecycle lifecycle site.book) there) whole.policies }
-whole_after (PolicyChange policy active lifecycle) site images stored passes whole =
+whole_after (request.PolicyChange policy active lifecycle) site images stored passes whole =
     let there : option_map_or (λ l. not (has_lifecycle l site.book)) lifecycle false ≡ false = second_false (not (has policy_name policy site.book.policies)) (option_map_or (λ l. not (has_lifecycle l site.book)) lifecycle false) _ _ _ passes in
     whole_with policy _ site.book (λ p under. changes_lifecycle lifecycle site.book p there under) whole
-whole_after (PolicyRemove policy) site images stored passes whole = record { lifecycles = whole.lifecycles; unit = whole.unit; policies = each-without policy_name (IsUnder site.book) policy site.book.policies whole.policies }
-whole_after (PolicyClientAdd policy client) site images stored passes whole = whole_with policy _ site.book (λ p under. under) whole
-whole_after (PolicyClientRemove policy client) site images stored passes whole = whole_with policy _ site.book (λ p under. under) whole
-whole_after (PolicySelect policy path) site images stored passes whole = whole_with policy _ site.book (λ p under. under) whole
-whole_after (PolicyUnselect policy path) site images stored passes whole = whole_with policy _ site.book (λ p under. under) whole
-whole_after (ScheduleAdd policy schedule kind frequency calendar windows) site images stored passes whole = whole_with policy _ site.book (λ p under. under) whole
-whole_after (ScheduleChange policy schedule kind frequency calendar windows) site images stored passes whole = whole_with policy _ site.book (λ p under. under) whole
-whole_after (ScheduleRemove policy schedule) site images stored passes whole = whole_with policy _ site.book (λ p under. under) whole
-whole_after (ZoneSet rule offset) site images stored passes whole = whole
-whole_after Load site images stored passes whole = record { lifecycles = whole.lifecycles; unit = whole.unit; policies = whole.policies }
-whole_after (Backup client policy schedule start) site images stored passes whole = record { lifecycles = whole.lifecycles; unit = whole.unit; policies = whole.policies }
-whole_after (Restore id copy) site images stored passes whole = record { lifecycles = whole.lifecycles; unit = whole.unit; policies = whole.policies }
-
--- What the desk lets through, the book lets through.
-book_passes : (rs : List (Bool × BookFault)) (more : List (Bool × Answer)) → first_refusal (map (λ (r : Bool × BookFault). (r.0, refusal_answer r.1)) rs ++ more) ≡ None → changes.first_refusal rs ≡ None
-book_passes [] more passes = refl
-book_passes (r ∷ rs) more passes = at r.0 (book_passes rs more) passes
-  where
-    later : Option Answer
-    later = first_refusal (map (λ (x : Bool × BookFault). (x.0, refusal_answer x.1)) rs ++ more)
-
-    at : (b : Bool) → (later ≡ None → changes.first_refusal rs ≡ None) → (if b then Some (refusal_answer r.1) else later) ≡ None → (if b then Some r.1 else changes.first_refusal rs) ≡ None
-    at true rest none = absurd (cc none)
-    at false rest none = rest none
+whole_after (request.PolicyRemove policy) site images stored passes whole = record { lifecycles = whole.lifecycles; unit = whole.unit; policies = each-without policy_name (IsUnder site.book) policy site.book.policies whole.policies }
+whole_after (request.PolicyClientAdd policy client) site images stored passes whole = whole_with policy _ site.book (λ p under. under) whole
+whole_after (request.PolicyClientRemove policy client) site images stored passes whole = whole_with policy _ site.book (λ p under. under) whole
+whole_after (request.PolicySelect policy path) site images stored passes whole = whole_with policy _ site.book (λ p under. under) whole
+whole_after (request.PolicyUnselect policy path) site images stored passes whole = whole_with policy _ site.book (λ p under. under) whole
+whole_after (request.ScheduleAdd policy schedule kind frequency calendar windows) site images stored passes whole = whole_with policy _ site.book (λ p under. under) whole
+whole_after (request.ScheduleChange policy schedule kind frequency calendar windows) site images stored passes whole = whole_with policy _ site.book (λ p under. under) whole
+whole_after (request.ScheduleRemove policy schedule) site images stored passes whole = whole_with policy _ site.book (λ p under. under) whole
+whole_after r site images stored passes whole = record { lifecycles = whole.lifecycles; unit = whole.unit; policies = whole.policies }
 
 -- What set leaves.
 
-module _ (old new : Known) (images : List Image) (stored : List Stored) (r : Request) (d : Decision) (setting : is_setting r ≡ true) (decided : IsDecision (built old.site images stored) r [] 0 d) where
-  abbrev said : (d.answer ≡ (setting_step r (built old.site images stored)).0) × (d.change ≡ unless (first_refusal (setting_refusals r (built old.site images stored))) Settings)
-  said = as_setting (built old.site images stored) r [] 0 d setting decided
+sets : (site : Site) (r : Request) (c : Change) → SetsSite site r c → ((change : SiteChange) → c ≢ Settings change) → ⊥
+sets site r (Settings change) is other = other change refl
+sets site r Nothing is other = is
+sets site r Load is other = is
+sets site r (SealNow body) is other = is
 
-  abbrev passes : is_settings d.change ≡ true → first_refusal (setting_refusals r (built old.site images stored)) ≡ None
-  passes is = taken _ (built old.site images stored) (setting_step r (built old.site images stored)) d said.1 is
+module _ (old new : Index) (images : List Image) (stored : List Stored) (r : Request) (d : Decision) (setting : is_setting r ≡ true) (decided : IsDecision (built old.site images stored) r [] 0 d) where
+  abbrev s : State
+  s = built old.site images stored
 
-  pub allowed_so : is_settings d.change ≡ true → changes.first_refusal (refusals_of r old.site.book) ≡ None
-  allowed_so is = book_passes (refusals_of r old.site.book) (use_refusals r (built old.site images stored)) (passes is)
-
-  pub set_so : is_settings d.change ≡ true → new.site ≡ site_after r old.site → new.catalogue ≡ old.catalogue → new.extents ≡ old.extents → IsSet (built old.site images stored) r old new None
-  set_so is site_is catalogue_is extents_are = record { first = passes is; done = λ _. site_is; refused = λ a none. absurd (cc none); catalogue = catalogue_is; extents = extents_are }
-
-  pub refused_so : is_settings d.change ≡ false → new ≡ old → IsSet (built old.site images stored) r old new (Some d.answer)
-  refused_so is same = record {
-    first = refused _ (built old.site images stored) _ d said.0 said.1 is;
+  pub refused_so : ((change : SiteChange) → d.change ≢ Settings change) → new.site ≡ old.site → new.catalogue ≡ old.catalogue → new.extents ≡ old.extents → IsSet s r old new (Some d.answer)
+  refused_so other site_is catalogue_is extents_are = record {
+    first = some_so s r (site_change r) [] 0 d (class_change r setting) decided (λ answer_is change_is. sets old.site r d.change change_is other);
     done = λ none. absurd (cc none);
-    refused = λ a some. ap (λ (k : Known). k.site) same;
-    catalogue = ap (λ (k : Known). k.catalogue) same;
-    extents = ap (λ (k : Known). k.extents) same;
+    refused = λ a some. site_is;
+    catalogue = catalogue_is;
+    extents = extents_are;
   }
 
-  pub remembered_so : (records : List Found) → Remembers records old images → is_settings d.change ≡ true → new.site ≡ site_after r old.site → new.catalogue ≡ old.catalogue → new.extents ≡ old.extents → Remembers records new images
-  remembered_so records remembers is site_is catalogue_is extents_are = record {
-    listed = remembers.listed ∙ sym catalogue_is;
-    catalogued = subst (λ (es : List (BackupId × Extent)). Catalogued records es images) (sym extents_are) remembers.catalogued;
-    sized = remembers.sized;
-    below = subst (λ (s : Site). TimesBelow s.book images) (sym site_is) (below_after r old.site images stored (passes is) remembers.below);
-    whole = subst (λ (s : Site). IsWhole s.book) (sym site_is) (whole_after r old.site images stored (passes is) remembers.whole);
-  }
+  module _ (change : SiteChange) (is : d.change ≡ Settings change) where
+    passes : first_refusal (setting_refusals r s) ≡ None
+    passes = none_so s r (site_change r) [] 0 d (class_change r setting) decided (λ nothing. cc (sym is ∙ nothing))
+
+    pub change_so : IsSiteChange old.site r change
+    change_so = subst (SetsSite old.site r) is (passed_so s r (site_change r) [] 0 d (class_change r setting) decided passes).1
+
+    module _ (made : new.site ≡ site_made change old.site) (catalogue_is : new.catalogue ≡ old.catalogue) (extents_are : new.extents ≡ old.extents) where
+      site_is : new.site ≡ site_after r old.site
+      site_is = made ∙ change_so.made
+
+      pub set_so : IsSet s r old new None
+      set_so = record { first = passes; done = λ _. site_is; refused = λ a none. absurd (cc none); catalogue = catalogue_is; extents = extents_are }
+
+      pub remembered_so : (records : List Found) → Remembers records old images → Remembers records new images
+      remembered_so records remembers = record {
+        listed = remembers.listed ∙ sym catalogue_is;
+        catalogued = subst (λ (es : List (BackupId × Extent)). Catalogued records es images) (sym extents_are) remembers.catalogued;
+        sized = remembers.sized;
+        below = subst (λ (site : Site). TimesBelow site.book images) (sym site_is) (below_after r old.site images stored passes remembers.below);
+        whole = subst (λ (site : Site). IsWhole site.book) (sym site_is) (whole_after r old.site images stored passes remembers.whole);
+      }
 
 -- An image that was admitted is taken out again.
 
@@ -250,24 +200,43 @@ none_of : {A : Type 0} (o : Option A) → is_some o ≡ false → o ≡ None
 none_of None is = refl
 none_of (Some x) is = absurd (cc is)
 
--- an image that the catalogue hasn't has no extent
-no_extent : (records : List Found) (known : Known) (images : List Image) (id : BackupId) → Remembers records known images → record_named id known.catalogue ≡ None → extent_of id known.extents ≡ None
-no_extent records known images id remembers new =
-    let absent : has_image id images ≡ false = sym (has_entry id images) ∙ ap (λ (c : List ImageRecord). is_some (record_named id c)) remembers.listed ∙ ap is_some new in
-    none_of (extent_of id known.extents) (catalogued-has records known.extents images id remembers.catalogued ∙ absent)
-
-back : (records : List Found) (old new : Known) (mid : List (BackupId × Extent)) (images : List Image) (id : BackupId) (extent : Extent) → Remembers records old images → record_named id old.catalogue ≡ None → new.site ≡ old.site → new.catalogue ≡ old.catalogue → Adds id extent old.extents mid → Removes id mid new.extents → SameKnown old new
-back records old new mid images id extent remembers absent site_is catalogue_is adds removes = record {
-  site = site_is;
-  catalogue = catalogue_is;
-  extents = λ q. removes q ∙ ap (λ (e : Option Extent). cond (is_at (id_cmp id) q) None e) (adds q) ∙ either q (is_at (id_cmp id) q) refl;
-}
+-- an extent that was added is taken out again, of an image that the catalogue hasn't
+back : (old : Index) (mid new : List (BackupId × Extent)) (id : BackupId) (extent : Extent) → record_named id old.catalogue ≡ None → Adds id extent old.extents mid → Removes id mid new → SameExtents old.extents new
+back old mid new id extent absent adds removes q = removes q ∙ ap (λ (e : Option Extent). cond (is_at (id_cmp id) q) None e) (adds q) ∙ either (is_at (id_cmp id) q) refl
   where
-    either : (q : BackupId) (b : Bool) → is_at (id_cmp id) q ≡ b → cond b None (cond b (Some extent) (extent_of q old.extents)) ≡ extent_of q old.extents
-    either q true same = sym (ap (λ (x : BackupId). extent_of x old.extents) (sym (same_is id q (sym (at_same id q) ∙ same))) ∙ no_extent records old images id remembers absent)
-    either q false differs = refl
+    either : (b : Bool) → is_at (id_cmp id) q ≡ b → cond b None (cond b (Some extent) (extent_of q old.extents)) ≡ extent_of q old.extents
+    either true same = sym (ap (λ (x : BackupId). extent_of x old.extents) (sym (same_is id q (sym (at_same id q) ∙ same))) ∙ none_of (extent_of id old.extents) (old.placed id ∙ ap is_some absent))
+    either false differs = refl
 
-pub taken_back : (records : List Found) (old new : Known) (mid : List (BackupId × Extent)) (images : List Image) (id key gone : BackupId) (extent : Extent) (book : Book) → key ≡ id → gone ≡ id → Remembers records old images → record_named id old.catalogue ≡ None → book ≡ old.site.book → new.site ≡ record (old.site) { book = book } → new.catalogue ≡ old.catalogue → Adds key extent old.extents mid → Removes gone mid new.extents → SameKnown old new
-taken_back records old new mid images id key gone extent book key_is gone_is remembers absent book_is site_is catalogue_is adds removes =
-    back records old new mid images id extent remembers absent (site_is ∙ ap (λ (b : Book). record (old.site) { book = b }) book_is) catalogue_is
-    (subst (λ (k : BackupId). Adds k extent old.extents mid) key_is adds) (subst (λ (k : BackupId). Removes k mid new.extents) gone_is removes)
+pub taken_back : (old : Index) (mid new : List (BackupId × Extent)) (id key gone : BackupId) (extent : Extent) → key ≡ id → gone ≡ id → record_named id old.catalogue ≡ None → Adds key extent old.extents mid → Removes gone mid new → SameExtents old.extents new
+taken_back old mid new id key gone extent key_is gone_is absent adds removes =
+    back old mid new id extent absent (subst (λ (k : BackupId). Adds k extent old.extents mid) key_is adds) (subst (λ (k : BackupId). Removes k mid new) gone_is removes)
+
+-- The images of the catalogue are those that have an extent.
+
+abbrev pub IsPlaced : List (BackupId × Extent) → List ImageRecord → Type 0
+IsPlaced extents records = (id : BackupId) → is_some (extent_of id extents) ≡ is_some (record_named id records)
+
+pub placed_none : (extents : List (BackupId × Extent)) → ((id : BackupId) → extent_of id extents ≡ None) → IsPlaced extents []
+placed_none extents none id = ap is_some (none id)
+
+recorded-with : (id : BackupId) (new : ImageRecord) (records : List ImageRecord) → is_some (record_named id (with_record new records)) ≡ (same_id new.id id || is_some (record_named id records))
+recorded-with id new records =
+    ap (λ (l : List ImageRecord). is_some (record_named id (with_record new l))) (sym (entries_seen records)) ∙ ap (λ (l : List ImageRecord). is_some (record_named id l)) (sym (entries-with (blank new) (map blank records)))
+    ∙ has_entry id (with_image (blank new) (map blank records)) ∙ has_image-with id (blank new) (map blank records)
+    ∙ ap (λ (b : Bool). same_id new.id id || b) (sym (has_entry id (map blank records)) ∙ ap (λ (l : List ImageRecord). is_some (record_named id l)) (entries_seen records))
+
+placed_with : (extents extents' : List (BackupId × Extent)) (records : List ImageRecord) (new : ImageRecord) (extent : Extent) → IsPlaced extents records → Adds new.id extent extents extents' → IsPlaced extents' (with_record new records)
+placed_with extents extents' records new extent placed adds id =
+    ap is_some (adds id) ∙ ap (λ (b : Bool). is_some (cond b (Some extent) (extent_of id extents))) (at_same new.id id) ∙ either (same_id new.id id) ∙ sym (recorded-with id new records)
+  where
+    either : (b : Bool) → is_some (cond b (Some extent) (extent_of id extents)) ≡ (b || is_some (record_named id records))
+    either true = refl
+    either false = placed id
+
+pub placed_more : (old : Index) (extents : List (BackupId × Extent)) (catalogue : List ImageRecord) (new : ImageRecord) (key : BackupId) (extent : Extent) → key ≡ new.id → Adds key extent old.extents extents → catalogue ≡ with_record new old.catalogue → IsPlaced extents catalogue
+placed_more old extents catalogue new key extent key_is adds is =
+    subst (IsPlaced extents) (sym is) (placed_with old.extents extents old.catalogue new extent old.placed (subst (λ (k : BackupId). Adds k extent old.extents extents) key_is adds))
+
+pub placed_still : (old : Index) (extents : List (BackupId × Extent)) (catalogue : List ImageRecord) → SameExtents old.extents extents → catalogue ≡ old.catalogue → IsPlaced extents catalogue
+placed_still old extents catalogue same is id = ap is_some (same id) ∙ old.placed id ∙ ap (λ (l : List ImageRecord). is_some (record_named id l)) (sym is)

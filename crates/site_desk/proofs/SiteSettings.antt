@@ -1,5 +1,5 @@
 -- The requests of a site file change the site.
-use Rattle.std.proofs.Common.{◌≡◌, ◌+◌, ℕ, zero, suc, ℤ, Bool, true, false, List, [], ◌∷◌, ◌++◌, length, Some, None, Ok, Err, refl, subst, arith}
+use Rattle.std.proofs.Common.{◌≡◌, ℕ, zero, suc, ℤ, Bool, true, false, List, [], ◌∷◌, ◌++◌, Some, None, Ok, Err, refl, sym, subst, arith}
 use Rattle.std.specs.Prelude.{Option, Result, All, if◌then◌else◌, nat_lt, codes, unwrap_or, option_map}
 use Rattle.std.specs.List.{AllPass}
 use Rattle.std.specs.Option.{option_and_then}
@@ -9,12 +9,14 @@ use Rattle.toml.specs.Parse.{parse_document}
 use Rattle.site_types.specs.declared.calendar.CalendarItem.{CalendarItem}
 use Rattle.site_types.specs.declared.image.Kind.{Kind}
 use Rattle.site_types.specs.declared.request.Request.{Request}
-use Rattle.site_types.specs.declared.request.Request.TheVariants.{UnitAdd, ClientAdd, PolicyClientAdd, PolicySelect, ScheduleAdd, ZoneSet}
+use Rattle.site_types.specs.declared.request.Request.TheVariants as request
+use Rattle.site_types.specs.declared.forms.FormName.{FormName}
+use Rattle.site_types.specs.declared.forms.FormName.TheVariants as form
+use Rattle.site_types.specs.Forms.{Form, form_among, form_named, form_words, forms, name_key, capacity_key, segment_key, fragment_key, slots_key, high_key, low_key, is_one, pair_of, policy_add_of, schedule_of, unit_add_of, zone_of}
 use Rattle.site_types.specs.declared.schedule.PolicyType.{PolicyType}
 use Rattle.site_types.specs.declared.window.Windows.{Windows}
-use Rattle.site_types.specs.Keys.{among, name_of, first_bad}
-use Rattle.site_types.specs.Numbers.{number_between}
-use Rattle.site_types.specs.Requests as requests
+use Rattle.site_types.specs.Keys.{Given, name_of, number_in, value_in}
+use Rattle.site_types.specs.Requests.{read_as, read_words, unless_bad}
 use Rattle.policy_book.specs.SiteFile as file
 use Rattle.policy_book.specs.SiteFile.{Line}
 use Rattle.desk_model.specs.Settings.{is_setting}
@@ -46,78 +48,88 @@ abbrev ReadsSetting : Result Request ℕ → Type 0
 ReadsSetting (Ok request) = IsSetting request
 ReadsSetting (Err index) = Unit {0}
 
-read_so : (bad : Option ℕ) (made : Option Request) (count : ℕ) → OfSetting made → ReadsSetting (requests.unless_bad bad made count)
+read_so : (bad : Option ℕ) (made : Option Request) (count : ℕ) → OfSetting made → ReadsSetting (unless_bad bad made count)
 read_so (Some index) made count setting = tt
 read_so None None count setting = tt
 read_so None (Some request) count setting = setting
 
 abbrev IsLine : Line → Type 0
-IsLine line = ReadsSetting (requests.read_words line)
+IsLine line = ReadsSetting (read_words line)
 
-unit_add_so : (name : Option (List ℕ)) (capacity segment fragment slots high low : Option ℕ) → OfSetting (requests.unit_add_of name capacity segment fragment slots high low)
+-- What the values of a form's keys make.
+
+unit_add_so : (name : Option (List ℕ)) (capacity segment fragment slots high low : Option ℕ) → OfSetting (unit_add_of name capacity segment fragment slots high low)
 unit_add_so None capacity segment fragment slots high low = tt
 unit_add_so (Some name) None segment fragment slots high low = tt
 unit_add_so (Some name) (Some capacity) segment fragment slots high low = at (nat_lt (unwrap_or low 80) (unwrap_or high 98))
   where
-    at : (b : Bool) → OfSetting (if b then Some (UnitAdd name capacity segment fragment slots high low) else None)
+    at : (b : Bool) → OfSetting (if b then Some (request.UnitAdd name capacity segment fragment slots high low) else None)
     at true = refl
     at false = tt
 
-named_so : (request : List ℕ → Request) (name : Option (List ℕ)) → ((name : List ℕ) → IsSetting (request name)) → OfSetting (requests.named_of request name)
-named_so request None setting = tt
-named_so request (Some name) setting = setting name
+named_so : (makes : List ℕ → Request) (name : Option (List ℕ)) → ((name : List ℕ) → IsSetting (makes name)) → OfSetting (option_map makes name)
+named_so makes None setting = tt
+named_so makes (Some name) setting = setting name
 
-pair_so : (request : List ℕ → List ℕ → Request) (first second : Option (List ℕ)) → ((first second : List ℕ) → IsSetting (request first second)) → OfSetting (requests.pair_of request first second)
-pair_so request None second setting = tt
-pair_so request (Some first) None setting = tt
-pair_so request (Some first) (Some second) setting = setting first second
+pair_so : (makes : List ℕ → List ℕ → Request) (first second : Option (List ℕ)) → ((first second : List ℕ) → IsSetting (makes first second)) → OfSetting (pair_of makes first second)
+pair_so makes None second setting = tt
+pair_so makes (Some first) None setting = tt
+pair_so makes (Some first) (Some second) setting = setting first second
 
-policy_add_so : (policy : Option (List ℕ)) (policy_type : Option PolicyType) (lifecycle : Option (List ℕ)) → OfSetting (requests.policy_add_of policy policy_type lifecycle)
+policy_add_so : (policy : Option (List ℕ)) (policy_type : Option PolicyType) (lifecycle : Option (List ℕ)) → OfSetting (policy_add_of policy policy_type lifecycle)
 policy_add_so None policy_type lifecycle = tt
 policy_add_so (Some policy) None lifecycle = tt
 policy_add_so (Some policy) (Some policy_type) None = tt
 policy_add_so (Some policy) (Some policy_type) (Some lifecycle) = refl
 
-schedule_so : (policy schedule : Option (List ℕ)) (kind : Option Kind) (frequency : Option ℕ) (calendar : Option (List CalendarItem)) (windows : Option Windows) → OfSetting (requests.schedule_of ScheduleAdd policy schedule kind frequency calendar windows)
+schedule_so : (policy schedule : Option (List ℕ)) (kind : Option Kind) (frequency : Option ℕ) (calendar : Option (List CalendarItem)) (windows : Option Windows) → OfSetting (schedule_of request.ScheduleAdd policy schedule kind frequency calendar windows)
 schedule_so None schedule kind frequency calendar windows = tt
 schedule_so (Some policy) None kind frequency calendar windows = tt
 schedule_so (Some policy) (Some schedule) None frequency calendar windows = tt
 schedule_so (Some policy) (Some schedule) (Some kind) frequency calendar None = tt
-schedule_so (Some policy) (Some schedule) (Some kind) frequency calendar (Some windows) = at (requests.is_one frequency calendar)
+schedule_so (Some policy) (Some schedule) (Some kind) frequency calendar (Some windows) = at (is_one frequency calendar)
   where
-    at : (b : Bool) → OfSetting (if b then Some (ScheduleAdd policy schedule kind frequency calendar windows) else None)
+    at : (b : Bool) → OfSetting (if b then Some (request.ScheduleAdd policy schedule kind frequency calendar windows) else None)
     at true = refl
     at false = tt
 
-zone_so : (rule : Option (List ℕ)) (offset : Option ℤ) → OfSetting (requests.zone_of rule offset)
-zone_so rule offset = at (requests.is_one rule offset)
+zone_so : (rule : Option (List ℕ)) (offset : Option ℤ) → OfSetting (zone_of rule offset)
+zone_so rule offset = at (is_one rule offset)
   where
-    at : (b : Bool) → OfSetting (if b then Some (ZoneSet rule offset) else None)
+    at : (b : Bool) → OfSetting (if b then Some (request.ZoneSet rule offset) else None)
     at true = refl
     at false = tt
+
+-- Lines that begin with the words of a form.
+
+are_found : (name : FormName) (words : Line) → form_among (form_words (form_named name) ++ words) ≡ Some (form_named name)
+unfolding forms
+are_found form.UnitAdd words = refl
+are_found _ words = refl
+
+line_of : (name : FormName) (words : Line) → ((v : Given) → OfSetting ((form_named name).made v)) → IsLine (form_words (form_named name) ++ words)
+line_of name words makes = subst (λ (o : Option Form). ReadsSetting (read_as o (form_words (form_named name) ++ words))) (sym (are_found name words)) (read_so _ _ _ (makes _))
 
 zone_line : (words : Line) → IsLine (codes "bpzone" ∷ codes "set" ∷ words)
-zone_line words = read_so (first_bad requests.zone_keys [] 2 words) (requests.zone_made words) (2 + length words) (zone_so _ _)
+zone_line words = line_of form.ZoneSet words (λ v. zone_so _ _)
 
 unit_line : (words : Line) → IsLine (codes "unit" ∷ codes "add" ∷ words)
-unit_line words = read_so (first_bad requests.unit_add_keys [] 2 words) (requests.unit_add_made words) (2 + length words) (unit_add_so (among name_of (codes "name") words) (among (number_between 1 1125899906842624) (codes "capacity") words) (among (number_between 16 131072) (codes "segment") words) (among (number_between 1 1048576) (codes "fragment") words)
-    (among (number_between 1 16777216) (codes "slots") words) (among (number_between 1 100) (codes "high") words) (among (number_between 0 99) (codes "low") words))
+unit_line words = line_of form.UnitAdd words (λ v. unit_add_so (value_in name_of v name_key) (number_in v capacity_key) (number_in v segment_key) (number_in v fragment_key) (number_in v slots_key) (number_in v high_key) (number_in v low_key))
 
 client_line : (words : Line) → IsLine (codes "client" ∷ codes "add" ∷ words)
-client_line words = read_so (first_bad (requests.name_key (codes "name") ∷ []) [] 2 words) (requests.named_made ClientAdd (codes "name") words) (2 + length words) (named_so ClientAdd _ (λ name. refl))
+client_line words = line_of form.ClientAdd words (λ v. named_so request.ClientAdd _ (λ name. refl))
 
 policy_line : (words : Line) → IsLine (codes "bppolicynew" ∷ codes "add" ∷ words)
-policy_line words = read_so (first_bad requests.policy_add_keys [] 2 words) (requests.policy_add_made words) (2 + length words) (policy_add_so _ _ _)
+policy_line words = line_of form.PolicyAdd words (λ v. policy_add_so _ _ _)
 
 listed_line : (words : Line) → IsLine (codes "bppolicynew" ∷ codes "client-add" ∷ words)
-listed_line words =
-    read_so (first_bad (requests.name_key (codes "policy") ∷ requests.name_key (codes "client") ∷ []) [] 2 words) (requests.pair_made PolicyClientAdd (codes "policy") (codes "client") words) (2 + length words) (pair_so PolicyClientAdd _ _ (λ policy client. refl))
+listed_line words = line_of form.PolicyClientAdd words (λ v. pair_so request.PolicyClientAdd _ _ (λ policy client. refl))
 
 selected_line : (words : Line) → IsLine (codes "bppolicynew" ∷ codes "select" ∷ words)
-selected_line words = read_so (first_bad (requests.name_key (codes "policy") ∷ requests.path_key ∷ []) [] 2 words) (requests.selection_made PolicySelect words) (2 + length words) (pair_so PolicySelect _ _ (λ policy path. refl))
+selected_line words = line_of form.PolicySelect words (λ v. pair_so request.PolicySelect _ _ (λ policy path. refl))
 
 schedule_line : (words : Line) → IsLine (codes "bpplsched" ∷ codes "add" ∷ words)
-schedule_line words = read_so (first_bad requests.schedule_keys [] 2 words) (requests.schedule_made ScheduleAdd words) (2 + length words) (schedule_so _ _ _ _ _ _)
+schedule_line words = line_of form.ScheduleAdd words (λ v. schedule_so _ _ _ _ _ _)
 
 -- The lines of a file.
 
@@ -219,7 +231,7 @@ OfSettings (Some requests) = Each IsSetting requests
 
 lines_so : (lines : List Line) → Each IsLine lines → OfSettings (file.requests_of lines)
 lines_so [] all = tt
-lines_so (line ∷ lines) all = at (requests.read_words line) (file.requests_of lines) all.0 (lines_so lines all.1)
+lines_so (line ∷ lines) all = at (read_words line) (file.requests_of lines) all.0 (lines_so lines all.1)
   where
     at : (r : Result Request ℕ) (o : Option (List Request)) → ReadsSetting r → OfSettings o → OfSettings (option_and_then (λ request. option_map (λ requests. request ∷ requests) o) (result_ok r))
     at (Err index) o first later = tt

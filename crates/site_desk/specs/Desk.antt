@@ -18,8 +18,8 @@ use Rattle.desk_model.specs.Step.{step}
 use Rattle.desk_rules.specs.declared.decision.JobBody.{JobBody}
 use Rattle.desk_rules.specs.declared.decision.JobBody.TheVariants.{Backup}
 use Rattle.site_desk.specs.Stands.{applied, opened, Standing, Between}
-use Rattle.site_desk.specs.Known.{built, Remembers}
-use Rattle.site_desk.specs.declared.known.Known.{Known}
+use Rattle.site_desk.specs.Index.{built, Remembers}
+use Rattle.site_desk.specs.declared.index.Index.{Index}
 
 abbrev pub images_in : Result State ℕ → List Image
 images_in (Ok s) = s.images
@@ -44,12 +44,12 @@ pub record KeptState (disk : Disk) (end : ℕ) (state : State) : Type 0 where
   pub rest : AtRest disk end records
   pub made : applied initial records ≡ Ok state
 
--- they make the state of which this is known
-pub record Kept (disk : Disk) (end : ℕ) (known : Known) : Type 0 where
+-- they make the state of this index
+pub record Kept (disk : Disk) (end : ℕ) (index : Index) : Type 0 where
   pub images : List Image
   pub stored : List Stored
-  pub kept : KeptState disk end (built known.site images stored)
-  pub remembers : Remembers kept.records known images
+  pub kept : KeptState disk end (built index.site images stored)
+  pub remembers : Remembers kept.records index images
 
 -- a step's answer is the model's, or want of memory, or a fault of the disk where the model refuses nothing
 abbrev pub IsDone : Answer → Type 0

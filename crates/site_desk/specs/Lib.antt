@@ -1,8 +1,6 @@
 pub mod Stands
 pub mod Extents
-pub mod Known
+pub mod Index
 pub mod Replays
 pub mod Desk
-pub mod Restores
 pub mod Steps
-pub mod Zoned

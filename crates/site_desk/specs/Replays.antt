@@ -9,8 +9,8 @@ use Rattle.pool_journal.specs.declared.entry.Entry.TheVariants as entry
 use Rattle.pool_journal.specs.Records.{Found}
 use Rattle.desk_model.specs.State.{State, Image, Stored}
 use Rattle.desk_model.specs.Settings.{is_setting}
-use Rattle.site_desk.specs.Known.{built, Remembers}
-use Rattle.site_desk.specs.declared.known.Known.{Known}
+use Rattle.site_desk.specs.Index.{built, Remembers}
+use Rattle.site_desk.specs.declared.index.Index.{Index}
 
 -- the entry of an image tells how many bytes stand behind it
 abbrev pub HasLength : Entry → ℕ → Type 0
@@ -28,14 +28,14 @@ setting_as line request = if is_setting request && bytes_eq (line_of request) li
 abbrev pub setting_of : List ℕ → Option Request
 setting_of line = option_and_then (setting_as line) (result_ok (read_line line))
 
--- there is a next state, and of it this is known
-pub record Reaches (records : List Found) (next : Option State) (known : Known) : Type 0 where
+-- there is a next state, and this is its index
+pub record Reaches (records : List Found) (next : Option State) (index : Index) : Type 0 where
   pub images : List Image
   pub stored : List Stored
-  pub made : next ≡ Some (built known.site images stored)
-  pub remembers : Remembers records known images
+  pub made : next ≡ Some (built index.site images stored)
+  pub remembers : Remembers records index images
 
 -- whether there is a next state
-abbrev pub IsReached : List Found → Option State → Known → Bool → Type 0
-IsReached records next known true = Reaches records next known
-IsReached records next known false = next ≡ None
+abbrev pub IsReached : List Found → Option State → Index → Bool → Type 0
+IsReached records next index true = Reaches records next index
+IsReached records next index false = next ≡ None

@@ -65,10 +65,6 @@ abbrev pub settled : State → List (List ℕ) → Option State
 settled s [] = Some s
 settled s (line ∷ lines) = option_and_then (λ t. settled t lines) (settled_by s line)
 
-abbrev pub entry_fits : State → Entry → Bool
-entry_fits s (entry.Settings lines) = is_some (settled s lines)
-entry_fits s (entry.WholeImage w) = image_fits s w
-
 -- the state after one record, where it fits
 abbrev pub apply_entry : State → Entry → List ℕ → Option State
 apply_entry s (entry.Settings lines) bytes = settled s lines

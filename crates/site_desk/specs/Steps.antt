@@ -1,9 +1,9 @@
 -- What a step promises, and what is made ready before it writes.
 use Rattle.std.specs.Prelude.{◌≡◌, ◌≢◌, ◌⊎◌, ℕ, ◌+◌, ◌^◌, ◌<◌, Bool, true, false, List, length, Option, Some, None, Result, Ok, Err, Contains}
+use Rattle.site_types.specs.Classes.{RequestClass, site_change, site_file, backup, restore, class_of}
 use Rattle.site_types.specs.declared.answer.Answer.{Answer}
 use Rattle.site_types.specs.declared.answer.Answer.TheVariants.{Done, OutOfMemory, DiskFault}
 use Rattle.site_types.specs.declared.request.Request.{Request}
-use Rattle.site_types.specs.declared.request.Request.TheVariants.{Backup, Restore}
 use Rattle.vault_disk.specs.Disk.{Disk}
 use Rattle.pool_journal.specs.Entries.{Record, spelled_entry, IsStaged}
 use Rattle.pool_journal.specs.Records.{Found}
@@ -11,9 +11,9 @@ use Rattle.pool_journal.specs.Stops.{with_one}
 use Rattle.desk_model.specs.State.{State, Image, Stored, entries}
 use Rattle.desk_model.specs.Step.{step}
 use Rattle.site_desk.specs.Stands.{apply, Standing, Between}
-use Rattle.site_desk.specs.Known.{built, Remembers}
+use Rattle.site_desk.specs.Index.{built, Remembers}
 use Rattle.site_desk.specs.Desk.{Answered, Moved, reached, IsOfStep, IsOfRequest, IsRefusal}
-use Rattle.site_desk.specs.declared.known.Known.{Known}
+use Rattle.site_desk.specs.declared.index.Index.{Index}
 
 -- a step over a vault that tells: what is answered, the state after it, and what a stop leaves
 pub record Steps (s : State) (request : Request) (payload : List ℕ) (moment : ℕ) (answer : Answer) (old new : Disk) (t : State) : Type 0 where
@@ -23,45 +23,55 @@ pub record Steps (s : State) (request : Request) (payload : List ℕ) (moment : 
   pub stops : Between s (reached s request payload moment answer) old new
 
 -- a request writes a record where it is carried out, but a restore writes none
+abbrev pub writes : RequestClass → Bool
+writes (site_change request) = true
+writes site_file = true
+writes (backup client policy schedule start) = true
+writes (restore id copy) = false
+
 abbrev pub is_written : Request → Bool
-is_written (Restore id copy) = false
-is_written request = true
+is_written request = writes (class_of request)
+
+abbrev pub backs_up : RequestClass → Bool
+backs_up (site_change request) = false
+backs_up site_file = false
+backs_up (backup client policy schedule start) = true
+backs_up (restore id copy) = false
 
 abbrev pub is_backup : Request → Bool
-is_backup (Backup client policy schedule start) = true
-is_backup request = false
+is_backup request = backs_up (class_of request)
 
--- requests were carried out over these images, and of the state that they make this is known; or the first that is refused was answered so
-abbrev pub AreSet : Result State Answer → List Image → Known → Option Answer → Type 0
-AreSet result images known None = (stored : List Stored) × (result ≡ Ok (built known.site images stored))
-AreSet result images known (Some refusal) = result ≡ Err refusal
+-- requests were carried out over these images, and this is the index of the state that they make; or the first that is refused was answered so
+abbrev pub AreSet : Result State Answer → List Image → Index → Option Answer → Type 0
+AreSet result images index None = (stored : List Stored) × (result ≡ Ok (built index.site images stored))
+AreSet result images index (Some refusal) = result ≡ Err refusal
 
 -- all were carried out, or none: then the first that is refused was answered, or there was no memory
-abbrev pub AreAllSet : Result State Answer → List Image → Known → Result (Unit {0}) Answer → Type 0
-AreAllSet result images known (Ok done) = (stored : List Stored) × (result ≡ Ok (built known.site images stored))
-AreAllSet result images known (Err answer) = (answer ≡ OutOfMemory) ⊎ (result ≡ Err answer)
+abbrev pub AreAllSet : Result State Answer → List Image → Index → Result (Unit {0}) Answer → Type 0
+AreAllSet result images index (Ok done) = (stored : List Stored) × (result ≡ Ok (built index.site images stored))
+AreAllSet result images index (Err answer) = (answer ≡ OutOfMemory) ⊎ (result ≡ Err answer)
 
 -- images that the catalogue may have the records of
-pub record AreListed (known : Known) (images : List Image) : Type 0 where
-  pub listed : entries images ≡ known.catalogue
+pub record AreListed (index : Index) (images : List Image) : Type 0 where
+  pub listed : entries images ≡ index.catalogue
   pub sized : (i : Image) → Contains images i → i.entry.length ≡ length i.bytes
 
--- a record takes a state to the one that is known now, in which it stands behind these
-pub record IsTaken (records : List Found) (end : ℕ) (s : State) (row : Record) (known : Known) : Type 0 where
+-- a record takes a state to that of the index, in which it stands behind these
+pub record IsTaken (records : List Found) (end : ℕ) (s : State) (row : Record) (index : Index) : Type 0 where
   pub images : List Image
   pub stored : List Stored
-  pub applies : apply s row ≡ Some (built known.site images stored)
-  pub remembers : end + 5 + length (spelled_entry row.entry) < 2 ^ 63 → Remembers (with_one records end row) known images
+  pub applies : apply s row ≡ Some (built index.site images stored)
+  pub remembers : end + 5 + length (spelled_entry row.entry) < 2 ^ 63 → Remembers (with_one records end row) index images
 
--- a record is ready to be written behind these, which takes a state to the one that is known now
-pub record IsReady (records : List Found) (end : ℕ) (s : State) (request : Request) (payload : List ℕ) (moment : ℕ) (staged body : List ℕ) (known : Known) : Type 0 where
+-- a record is ready to be written behind these, which takes a state to that of the index
+pub record IsReady (records : List Found) (end : ℕ) (s : State) (request : Request) (payload : List ℕ) (moment : ℕ) (staged body : List ℕ) (index : Index) : Type 0 where
   pub row : Record
   pub staged_is : IsStaged row staged
   pub images : List Image
   pub stored : List Stored
-  pub applies : apply s row ≡ Some (built known.site images stored)
-  pub steps : step s request payload moment ≡ (Done body, built known.site images stored)
-  pub remembers : end + 5 + length (spelled_entry row.entry) < 2 ^ 63 → Remembers (with_one records end row) known images
+  pub applies : apply s row ≡ Some (built index.site images stored)
+  pub steps : step s request payload moment ≡ (Done body, built index.site images stored)
+  pub remembers : end + 5 + length (spelled_entry row.entry) < 2 ^ 63 → Remembers (with_one records end row) index images
 
 -- a step is refused so, and nothing is done
 abbrev pub IsRefused : State → Request → List ℕ → ℕ → Answer → Type 0

@@ -1,17 +1,18 @@
 // A backup at once.
 ghost use Rattle.std.specs.Prelude.{◌≡◌, ◌≢◌, ◌<◌, ◌≤◌, ◌^◌, ℕ, List, true, false, length, IfOk, OnOk, OnErr, IfErr};
 ghost use Rattle.site_types.specs.Limits.{last_moment};
+ghost use Rattle.site_types.specs.Lines.{IsFormed};
 ghost use Rattle.site_types.specs.declared.image.Base.TheVariants as base;
 ghost use Rattle.pool_journal.specs.declared.entry.Entry.TheVariants as entry;
 ghost use Rattle.pool_journal.specs.Entries.{IsStaged, body_of};
 ghost use Rattle.pool_journal.specs.Records.{Found};
 ghost use Rattle.desk_model.specs.State.{Image, Stored};
-ghost use Rattle.site_desk.specs.Known.{built, Remembers, SameKnown};
+ghost use Rattle.site_desk.specs.Index.{built, Remembers, SameIndex};
 ghost use Rattle.site_desk.specs.Desk.{IsDone, whole_of};
 ghost use Rattle.site_desk.specs.Steps.{is_backup, IsReady, IsRefused, IsStepRefusal, IsTaken};
 
 use crate::extents::next_extent;
-use crate::known::Known;
+use crate::index::Index;
 use crate::lines::RECORD_END;
 use crate::prepare::Ready;
 use crate::replay::take_image;
@@ -63,7 +64,7 @@ fn is_writable(image: &WholeImage, payload: &[u8]) -> bool
 // it holds. One that doesn't fit is never recorded, since no opening would take it.
 fn seal(
     alloc: Global,
-    known: &mut Known,
+    index: &mut Index,
     end: u64,
     image: WholeImage,
     payload: &[u8],
@@ -71,9 +72,8 @@ fn seal(
     requires length { image.length ≡ length payload.now }
     requires base { image.base ≢ base.Time 0 }
     ensures staged { IfOk result (IsStaged (record { entry = entry.WholeImage image; bytes = payload.now })) }
-    ensures taken { (records : List Found) (images : List Image) (stored : List Stored) → Remembers records known.old images → OnOk result (IsTaken records end (built known.old.site images stored) (record { entry = entry.WholeImage image; bytes = payload.now }) known.new) }
-    ensures site { OnErr result (known.new.site ≡ known.old.site) }
-    ensures unchanged { (records : List Found) (images : List Image) → Remembers records known.old images → OnErr result (SameKnown known.old known.new) }
+    ensures taken { (records : List Found) (images : List Image) (stored : List Stored) → Remembers records index.old images → OnOk result (IsTaken records end (built index.old.site images stored) (record { entry = entry.WholeImage image; bytes = payload.now }) index.new) }
+    ensures unchanged { OnErr result (SameIndex index.old index.new) }
 {
     if !is_writable(&image, payload) {
         return Err(AllocError);
@@ -84,7 +84,7 @@ fn seal(
     let Entry::WholeImage(image) = &entry else {
         unreachable!()
     };
-    if !take_image(alloc, known, image, extent)? {
+    if !take_image(alloc, index, image, extent)? {
         return Err(AllocError);
     }
     Ok(staged)
@@ -93,22 +93,22 @@ fn seal(
 /// Makes ready the record of a backup.
 pub fn prepare_backup(
     alloc: Global,
-    known: &mut Known,
+    index: &mut Index,
     end: u64,
     request: &Request,
     payload: &[u8],
     moment: u64,
 ) -> Result<Ready, Answer>
     requires backup { is_backup request.now ≡ true }
+    requires formed { IsFormed request.now }
     requires moment { moment ≤ last_moment }
-    ensures ready { (records : List Found) (images : List Image) (stored : List Stored) → Remembers records known.old images → IfOk result (λ r. IsReady records end (built known.old.site images stored) request.now payload.now moment r.staged r.body known.new) }
-    ensures refused { (records : List Found) (images : List Image) (stored : List Stored) → Remembers records known.old images → IfErr result (IsRefused (built known.old.site images stored) request.now payload.now moment) }
+    ensures ready { (records : List Found) (images : List Image) (stored : List Stored) → Remembers records index.old images → IfOk result (λ r. IsReady records end (built index.old.site images stored) request.now payload.now moment r.staged r.body index.new) }
+    ensures refused { (records : List Found) (images : List Image) (stored : List Stored) → Remembers records index.old images → IfErr result (IsRefused (built index.old.site images stored) request.now payload.now moment) }
     ensures plain { IfErr result IsStepRefusal }
-    ensures site { OnErr result (known.new.site ≡ known.old.site) }
-    ensures unchanged { (records : List Found) (images : List Image) → Remembers records known.old images → OnErr result (SameKnown known.old known.new) }
+    ensures unchanged { OnErr result (SameIndex index.old index.new) }
 {
     let size = payload.len() as u64;
-    let Ok(decision) = decide(alloc, &known.site, &known.catalogue, request, size, moment) else {
+    let Ok(decision) = decide(alloc, &index.site, &index.catalogue, request, size, moment) else {
         return Err(Answer::OutOfMemory);
     };
     let Decision { answer, change } = decision;
@@ -118,7 +118,7 @@ pub fn prepare_backup(
     let Answer::Done { body: line } = answer else {
         unreachable!()
     };
-    match seal(alloc, known, end, whole_of(body, moment), payload) {
+    match seal(alloc, index, end, whole_of(body, moment), payload) {
         Ok(staged) => Ok(Ready { staged, body: line }),
         Err(_) => Err(Answer::OutOfMemory),
     }

@@ -6,10 +6,10 @@ ghost use Rattle.pool_journal.specs.Entries.{IsStaged};
 ghost use Rattle.pool_journal.specs.Records.{Found};
 ghost use Rattle.desk_model.specs.State.{Image, Stored};
 ghost use Rattle.desk_model.specs.Settings.{is_setting};
-ghost use Rattle.site_desk.specs.Known.{built, Remembers, SameKnown};
+ghost use Rattle.site_desk.specs.Index.{built, Remembers, SameIndex};
 ghost use Rattle.site_desk.specs.Steps.{IsReady, IsRefused, IsStepRefusal};
 
-use crate::known::Known;
+use crate::index::Index;
 use crate::lines::{line_of, stage_lines};
 use crate::prepare::Ready;
 use pool_journal::Staged;
@@ -25,19 +25,18 @@ fn stage_request(alloc: Global, request: &Request) -> Result<Staged, NoMemory>
 }
 
 /// Makes ready the record of a request that changes the site.
-pub fn prepare_change(alloc: Global, known: &mut Known, request: &Request) -> Result<Ready, Answer>
+pub fn prepare_change(alloc: Global, index: &mut Index, request: &Request) -> Result<Ready, Answer>
     requires setting { is_setting request.now ≡ true }
     requires formed { IsFormed request.now }
-    ensures ready { (records : List Found) (images : List Image) (stored : List Stored) (end : ℕ) (payload : List ℕ) (moment : ℕ) → Remembers records known.old images → IfOk result (λ r. IsReady records end (built known.old.site images stored) request.now payload moment r.staged r.body known.new) }
-    ensures refused { (records : List Found) (images : List Image) (stored : List Stored) (payload : List ℕ) (moment : ℕ) → Remembers records known.old images → IfErr result (IsRefused (built known.old.site images stored) request.now payload moment) }
+    ensures ready { (records : List Found) (images : List Image) (stored : List Stored) (end : ℕ) (payload : List ℕ) (moment : ℕ) → Remembers records index.old images → IfOk result (λ r. IsReady records end (built index.old.site images stored) request.now payload moment r.staged r.body index.new) }
+    ensures refused { (records : List Found) (images : List Image) (stored : List Stored) (payload : List ℕ) (moment : ℕ) → Remembers records index.old images → IfErr result (IsRefused (built index.old.site images stored) request.now payload moment) }
     ensures plain { IfErr result IsStepRefusal }
-    ensures site { OnErr result (known.new.site ≡ known.old.site) }
-    ensures unchanged { (records : List Found) (images : List Image) → Remembers records known.old images → OnErr result (SameKnown known.old known.new) }
+    ensures unchanged { OnErr result (SameIndex index.old index.new) }
 {
     let Ok(staged) = stage_request(alloc, request) else {
         return Err(Answer::OutOfMemory);
     };
-    match known.set(alloc, request) {
+    match index.set(alloc, request) {
         Ok(None) => Ok(Ready {
             staged,
             body: Text::from_vec(Vec::new(alloc)),

@@ -1,6 +1,6 @@
 ghost use Rattle.std.specs.Prelude.{◌≡◌};
 
-use crate::known::Known;
+use crate::index::Index;
 use pool_journal::Journal;
 use std::marker::Model;
 use vault_disk::Vault;
@@ -10,7 +10,7 @@ use vault_disk::Vault;
 pub struct Desk<V: Vault> {
     pub(crate) vault: V,
     pub(crate) journal: Journal,
-    pub(crate) known: Known,
+    pub(crate) index: Index,
     pub(crate) stopped: bool,
 }
 
@@ -20,9 +20,9 @@ impl<V: Vault> Model for Desk<V> {
 
     ghost Value = { DeskValue V };
 
-    ghost view = { λ d. record { state = desk_state (V.disk d.vault) d.known.site; stopped = d.stopped; vault = d.vault } };
+    ghost view = { λ d. record { state = desk_state (V.disk d.vault) d.index.site; stopped = d.stopped; vault = d.vault } };
 
-    ghost invariant = { λ d. d.stopped ≡ false → (V.disk d.vault).tells → Kept (V.disk d.vault) d.journal d.known };
+    ghost invariant = { λ d. d.stopped ≡ false → (V.disk d.vault).tells → Kept (V.disk d.vault) d.journal d.index };
 }
 
 impl<V: Vault> Desk<V> {
@@ -40,7 +40,7 @@ impl<V: Vault> Desk<V> {
         let Desk {
             vault,
             journal: _,
-            known: _,
+            index: _,
             stopped: _,
         } = self;
         vault

@@ -6,7 +6,7 @@ mod change;
 mod desk;
 mod extents;
 mod image;
-mod known;
+mod index;
 mod lines;
 mod load;
 mod open;
@@ -16,6 +16,5 @@ mod replay;
 mod restore;
 mod setting;
 mod step;
-mod zone;
 
 pub use desk::Desk;

@@ -1,18 +1,21 @@
 // The requests of a site file, all of them or none.
-ghost use Rattle.std.specs.Prelude.{◌≡◌, ℕ, List, [], All, map, OnOk, IfOk, IfErr, OnErr};
+ghost use Rattle.std.specs.Prelude.{◌≡◌, ◌≤◌, ℕ, List, [], All, map, OnOk, IfOk, IfErr, OnErr};
 ghost use Rattle.std.specs.List.{AllPass};
+ghost use Rattle.site_types.specs.Classes.{class_of, site_file};
+ghost use Rattle.site_types.specs.Limits.{last_moment};
 ghost use Rattle.site_types.specs.Lines.{IsFormed, line_of};
 ghost use Rattle.pool_journal.specs.declared.entry.Entry.TheVariants as entry;
 ghost use Rattle.pool_journal.specs.Entries.{IsStaged};
 ghost use Rattle.pool_journal.specs.Records.{Found};
 ghost use Rattle.desk_model.specs.State.{Image, Stored};
 ghost use Rattle.desk_model.specs.Settings.{all_set, count_text, is_setting};
-ghost use Rattle.site_desk.specs.Known.{built, Remembers, SameKnown};
+ghost use Rattle.site_desk.specs.Index.{built, Remembers, SameIndex};
 ghost use Rattle.site_desk.specs.Steps.{AreAllSet, AreListed, AreSet, IsReady, IsRefusalOf, IsRefused, IsStepRefusal};
 
-use crate::known::Known;
+use crate::index::Index;
 use crate::lines::{line_of, stage_lines};
 use crate::prepare::Ready;
+use desk_rules::{Change, Decision, decide};
 use itoa::Buffer;
 use policy_book::LoadFault;
 use site_types::{Answer, Copied, NoMemory, Request, Text};
@@ -53,18 +56,18 @@ fn stage_requests(alloc: Global, requests: &[Request]) -> Result<Ready, NoMemory
 // Carries out requests one after the other, up to the first that is refused.
 fn set_each(
     alloc: Global,
-    known: &mut Known,
+    index: &mut Index,
     requests: &[Request],
 ) -> Result<Option<Answer>, NoMemory>
     requires settings { AllPass is_setting requests.now }
     requires formed { All IsFormed requests.now }
-    ensures set { (images : List Image) (stored : List Stored) → AreListed known.old images → IfOk result (AreSet (all_set requests.now (built known.old.site images stored)) images known.new) }
-    ensures remembered { (records : List Found) (images : List Image) → Remembers records known.old images → OnOk result (Remembers records known.new images) }
-    ensures catalogue { known.new.catalogue ≡ known.old.catalogue }
-    ensures extents { known.new.extents ≡ known.old.extents }
+    ensures set { (images : List Image) (stored : List Stored) → AreListed index.old images → IfOk result (AreSet (all_set requests.now (built index.old.site images stored)) images index.new) }
+    ensures remembered { (records : List Found) (images : List Image) → Remembers records index.old images → OnOk result (Remembers records index.new images) }
+    ensures catalogue { index.new.catalogue ≡ index.old.catalogue }
+    ensures extents { index.new.extents ≡ index.old.extents }
 {
     for request in requests {
-        if let Some(refusal) = known.set(alloc, request)? {
+        if let Some(refusal) = index.set(alloc, request)? {
             return Ok(Some(refusal));
         }
     }
@@ -72,38 +75,54 @@ fn set_each(
 }
 
 // Carries out all requests. Where one of them is refused, and without memory, the site is put back as it was.
-fn set_all(alloc: Global, known: &mut Known, requests: &[Request]) -> Result<(), Answer>
+fn set_all(alloc: Global, index: &mut Index, requests: &[Request]) -> Result<(), Answer>
     requires settings { AllPass is_setting requests.now }
     requires formed { All IsFormed requests.now }
-    ensures set { (images : List Image) (stored : List Stored) → AreListed known.old images → AreAllSet (all_set requests.now (built known.old.site images stored)) images known.new result }
-    ensures remembered { (records : List Found) (images : List Image) → Remembers records known.old images → OnOk result (Remembers records known.new images) }
+    ensures set { (images : List Image) (stored : List Stored) → AreListed index.old images → AreAllSet (all_set requests.now (built index.old.site images stored)) images index.new result }
+    ensures remembered { (records : List Found) (images : List Image) → Remembers records index.old images → OnOk result (Remembers records index.new images) }
     ensures plain { IfErr result IsStepRefusal }
-    ensures unchanged { OnErr result (SameKnown known.old known.new) }
+    ensures unchanged { OnErr result (SameIndex index.old index.new) }
 {
-    let Ok(before) = known.site.copy(alloc) else {
+    let Ok(before) = index.site.copy(alloc) else {
         return Err(Answer::OutOfMemory);
     };
-    match set_each(alloc, known, requests) {
+    match set_each(alloc, index, requests) {
         Ok(None) => Ok(()),
         Ok(Some(refusal)) => {
-            known.site = before; // Those before it were carried out.
+            index.site = before; // Those before it were carried out.
             Err(refusal)
         }
         Err(_) => {
-            known.site = before;
+            index.site = before;
             Err(Answer::OutOfMemory)
         }
     }
 }
 
 /// Makes ready the record of the requests of a site file.
-pub fn prepare_load(alloc: Global, known: &mut Known, payload: &[u8]) -> Result<Ready, Answer>
-    ensures ready { (records : List Found) (images : List Image) (stored : List Stored) (end : ℕ) (moment : ℕ) → Remembers records known.old images → IfOk result (λ r. IsReady records end (built known.old.site images stored) Request.Load payload.now moment r.staged r.body known.new) }
-    ensures refused { (records : List Found) (images : List Image) (stored : List Stored) (moment : ℕ) → Remembers records known.old images → IfErr result (IsRefused (built known.old.site images stored) Request.Load payload.now moment) }
-    ensures plain { IfErr result (IsRefusalOf Request.Load payload.now) }
-    ensures site { OnErr result (known.new.site ≡ known.old.site) }
-    ensures unchanged { (records : List Found) (images : List Image) → Remembers records known.old images → OnErr result (SameKnown known.old known.new) }
+pub fn prepare_load(
+    alloc: Global,
+    index: &mut Index,
+    request: &Request,
+    payload: &[u8],
+    moment: u64,
+) -> Result<Ready, Answer>
+    requires file { class_of request.now ≡ site_file }
+    requires formed { IsFormed request.now }
+    requires moment { moment ≤ last_moment }
+    ensures ready { (records : List Found) (images : List Image) (stored : List Stored) (end : ℕ) → Remembers records index.old images → IfOk result (λ r. IsReady records end (built index.old.site images stored) request.now payload.now moment r.staged r.body index.new) }
+    ensures refused { (records : List Found) (images : List Image) (stored : List Stored) → Remembers records index.old images → IfErr result (IsRefused (built index.old.site images stored) request.now payload.now moment) }
+    ensures plain { IfErr result (IsRefusalOf request.now payload.now) }
+    ensures unchanged { OnErr result (SameIndex index.old index.new) }
 {
+    let size = payload.len() as u64;
+    let Ok(decision) = decide(alloc, &index.site, &index.catalogue, request, size, moment) else {
+        return Err(Answer::OutOfMemory);
+    };
+    let Decision { answer, change } = decision;
+    let Change::Load = change else {
+        return Err(answer);
+    };
     let requests = match policy_book::load(alloc, payload) {
         Ok(requests) => requests,
         Err(LoadFault::NotASite) => return Err(Answer::BadRequest { index: 1 }),
@@ -112,7 +131,7 @@ pub fn prepare_load(alloc: Global, known: &mut Known, payload: &[u8]) -> Result<
     let Ok(ready) = stage_requests(alloc, &requests) else {
         return Err(Answer::OutOfMemory);
     };
-    match set_all(alloc, known, &requests) {
+    match set_all(alloc, index, &requests) {
         Ok(()) => Ok(ready),
         Err(refusal) => Err(refusal),
     }

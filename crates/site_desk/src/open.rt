@@ -40,7 +40,7 @@ impl<V: Vault> Desk<V> {
         Ok(Desk {
             vault,
             journal: found.journal,
-            known: replayed.known,
+            index: replayed.index,
             stopped: false,
         })
     }

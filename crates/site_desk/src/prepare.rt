@@ -1,18 +1,18 @@
-// What a request needs before its record is written: all of its memory, and what is known once it is done.
+// What a request needs before its record is written: all of its memory, and the index once it is done.
 ghost use Rattle.std.specs.Prelude.{◌≡◌, ◌≤◌, List, true, IfOk, IfErr, OnErr};
 ghost use Rattle.site_types.specs.Limits.{last_moment};
 ghost use Rattle.site_types.specs.Lines.{IsFormed};
 ghost use Rattle.pool_journal.specs.Records.{Found};
 ghost use Rattle.desk_model.specs.State.{Image, Stored};
-ghost use Rattle.site_desk.specs.Known.{built, Remembers, SameKnown};
+ghost use Rattle.site_desk.specs.Index.{built, Remembers, SameIndex};
 ghost use Rattle.site_desk.specs.Steps.{is_written, IsReady, IsRefused, IsRefusalOf};
 
 use crate::backup::prepare_backup;
 use crate::change::prepare_change;
-use crate::known::Known;
+use crate::index::Index;
 use crate::load::prepare_load;
 use pool_journal::Staged;
-use site_types::{Answer, Request, Text};
+use site_types::{Answer, ByClass, Request, Text};
 use std::alloc::Global;
 
 /// A record that is ready to be written, and the body of what the request is answered once it is.
@@ -22,11 +22,11 @@ pub struct Ready {
     pub body: Text,
 }
 
-/// Makes ready what a request records, behind the journal's closed gate at `end`. From then on what is known is that of the state
+/// Makes ready what a request records, behind the journal's closed gate at `end`. From then on the index is that of the state
 /// after it. A refusal leaves all as it was.
 pub fn prepare(
     alloc: Global,
-    known: &mut Known,
+    index: &mut Index,
     end: u64,
     request: &Request,
     payload: &[u8],
@@ -35,16 +35,15 @@ pub fn prepare(
     requires written { is_written request.now ≡ true }
     requires formed { IsFormed request.now }
     requires moment { moment ≤ last_moment }
-    ensures ready { (records : List Found) (images : List Image) (stored : List Stored) → Remembers records known.old images → IfOk result (λ r. IsReady records end (built known.old.site images stored) request.now payload.now moment r.staged r.body known.new) }
-    ensures refused { (records : List Found) (images : List Image) (stored : List Stored) → Remembers records known.old images → IfErr result (IsRefused (built known.old.site images stored) request.now payload.now moment) }
+    ensures ready { (records : List Found) (images : List Image) (stored : List Stored) → Remembers records index.old images → IfOk result (λ r. IsReady records end (built index.old.site images stored) request.now payload.now moment r.staged r.body index.new) }
+    ensures refused { (records : List Found) (images : List Image) (stored : List Stored) → Remembers records index.old images → IfErr result (IsRefused (built index.old.site images stored) request.now payload.now moment) }
     ensures plain { IfErr result (IsRefusalOf request.now payload.now) }
-    ensures site { OnErr result (known.new.site ≡ known.old.site) }
-    ensures unchanged { (records : List Found) (images : List Image) → Remembers records known.old images → OnErr result (SameKnown known.old known.new) }
+    ensures unchanged { OnErr result (SameIndex index.old index.new) }
 {
-    match request {
-        Request::Load => prepare_load(alloc, known, payload),
-        Request::Backup { .. } => prepare_backup(alloc, known, end, request, payload, moment),
-        Request::Restore { .. } => unreachable!(),
-        _ => prepare_change(alloc, known, request),
+    match request.by_class() {
+        ByClass::SiteChange(_) => prepare_change(alloc, index, request),
+        ByClass::SiteFile => prepare_load(alloc, index, request, payload, moment),
+        ByClass::Backup { .. } => prepare_backup(alloc, index, end, request, payload, moment),
+        ByClass::Restore { .. } => unreachable!(), // A restore writes nothing.
     }
 }

@@ -11,23 +11,20 @@ ghost use Rattle.desk_model.specs.Site.{initial_site};
 ghost use Rattle.desk_model.specs.State.{Image, Stored, entries, has_image};
 ghost use Rattle.desk_model.specs.Backups.{image_limit, is_known, takes_all};
 ghost use Rattle.site_desk.specs.Stands.{apply, is_base_below, image_fits};
-ghost use Rattle.site_desk.specs.Known.{built, Remembers, IsReplayed, SameKnown};
+ghost use Rattle.site_desk.specs.Index.{built, Remembers, IsReplayed, SameIndex};
 ghost use Rattle.site_desk.specs.Replays.{AreSized, IsReached};
 
 use crate::extents::{Extent, Extents};
 use crate::image::record_of;
-use crate::known::Known;
+use crate::index::Index;
 use crate::setting::settle_lines;
 use desk_model::Site;
+use desk_rules::{IMAGE_LIMIT, takes_all};
 use image_catalogue::Catalogue;
-use policy_book::Book;
+use policy_book::{Book, CLIENT_LIMIT};
 use pool_journal::{Entry, Placed, WholeImage};
 use site_types::{BackupId, Base, LAST_MOMENT, NoMemory};
 use std::alloc::Global;
-
-const IMAGE_LIMIT: u64 = 1_048_576;
-
-const CLIENT_LIMIT: usize = 1_024;
 
 fn is_new(catalogue: &Catalogue, id: &BackupId) -> bool
     ensures { result ≡ is_none (record_named id.now catalogue.now) }
@@ -60,7 +57,7 @@ fn client_fits(book: &Book, image: &WholeImage) -> bool
     ensures { result ≡ (is_known image.now.id.client book.now || (takes_all image.now.policy && nat_lt (length book.now.clients) client_limit)) }
 {
     book.client(&image.id.client).is_some()
-        || (image.policy.bytes() == b"adhoc".as_slice() && book.clients().len() < CLIENT_LIMIT)
+        || (takes_all(&image.policy) && book.clients().len() < CLIENT_LIMIT)
 }
 
 fn is_base_below(base: Base, time: u64) -> bool
@@ -81,21 +78,21 @@ fn is_in_time(image: &WholeImage) -> bool
         && image.completed <= LAST_MOMENT
 }
 
-fn image_fits(known: &Known, image: &WholeImage) -> bool
-    ensures fits { (records : List Found) (images : List Image) (stored : List Stored) → Remembers records known.now images → result ≡ image_fits (built known.now.site images stored) image.now }
-    ensures new { result ≡ true → record_named image.now.id known.now.catalogue ≡ None }
-    ensures version { result ≡ true → is_some (version_named image.now.lifecycle image.now.version known.now.site.book.lifecycles) ≡ true }
+fn image_fits(index: &Index, image: &WholeImage) -> bool
+    ensures fits { (records : List Found) (images : List Image) (stored : List Stored) → Remembers records index.now images → result ≡ image_fits (built index.now.site images stored) image.now }
+    ensures new { result ≡ true → record_named image.now.id index.now.catalogue ≡ None }
+    ensures version { result ≡ true → is_some (version_named image.now.lifecycle image.now.version index.now.site.book.lifecycles) ≡ true }
 {
-    has_room(&known.catalogue, &image.id)
-        && is_allowed(&known.site.book, image)
-        && client_fits(&known.site.book, image)
+    has_room(&index.catalogue, &image.id)
+        && is_allowed(&index.site.book, image)
+        && client_fits(&index.site.book, image)
         && is_in_time(image)
 }
 
 /// Takes in an image whose bytes stand there, if it fits. Else, and without memory, all stays as it was.
 pub fn take_image(
     alloc: Global,
-    known: &mut Known,
+    index: &mut Index,
     image: &WholeImage,
     extent: Extent,
 ) -> Result<bool, NoMemory>
@@ -105,47 +102,46 @@ pub fn take_image(
         → image.now.length ≡ length f.is.bytes
         → extent.from ≡ f.from
         → extent.length ≡ length f.is.bytes
-        → Remembers records known.old images
-        → IfOk result (IsReached records (apply (built known.old.site images stored) f.is) known.new) }
-    ensures unfit { IfOk result (λ fits. fits ≡ false → known.new ≡ known.old) }
-    ensures site { OnErr result (known.new.site ≡ known.old.site) }
-    ensures unchanged { (records : List Found) (images : List Image) → Remembers records known.old images → OnErr result (SameKnown known.old known.new) }
+        → Remembers records index.old images
+        → IfOk result (IsReached records (apply (built index.old.site images stored) f.is) index.new) }
+    ensures unfit { IfOk result (λ fits. fits ≡ false → index.new ≡ index.old) }
+    ensures unchanged { OnErr result (SameIndex index.old index.new) }
 {
-    if !image_fits(known, image) {
+    if !image_fits(index, image) {
         return Ok(false);
     }
-    let record = record_of(alloc, &known.site.book, image)?;
-    known.admit(alloc, record, extent)?;
+    let record = record_of(alloc, &index.site.book, image)?;
+    index.admit(alloc, record, extent)?;
     Ok(true)
 }
 
-// Takes in a record's entry. False where it doesn't fit; then nothing is said of what is known.
-fn take(alloc: Global, known: &mut Known, placed: &Placed) -> Result<bool, NoMemory>
+// Replays a record. False where it doesn't fit; then nothing is said of the index.
+fn replay_record(alloc: Global, index: &mut Index, placed: &Placed) -> Result<bool, NoMemory>
     ensures { (records : List Found) (images : List Image) (stored : List Stored) (f : Found)
         → AreSized records
         → Contains records f
         → placed_of f ≡ placed.now
-        → Remembers records known.old images
-        → IfOk result (IsReached records (apply (built known.old.site images stored) f.is) known.new) }
+        → Remembers records index.old images
+        → IfOk result (IsReached records (apply (built index.old.site images stored) f.is) index.new) }
 {
     match &placed.entry {
-        Entry::Settings { lines } => settle_lines(alloc, known, lines.as_slice()),
+        Entry::Settings { lines } => settle_lines(alloc, index, lines.as_slice()),
         Entry::WholeImage(image) => {
             let extent = Extent {
                 from: placed.from,
                 length: placed.size,
             };
-            take_image(alloc, known, image, extent)
+            take_image(alloc, index, image, extent)
         }
     }
 }
 
-// What is known of a new vault.
-fn of_new_vault(alloc: Global) -> Result<Known, NoMemory>
+// The index of a new vault.
+fn of_new_vault(alloc: Global) -> Result<Index, NoMemory>
     ensures site { IfOk result (λ k. k.site ≡ initial_site) }
     ensures remembered { (records : List Found) → IfOk result (λ k. Remembers records k []) }
 {
-    Ok(Known {
+    Ok(Index {
         site: Site::new(alloc)?,
         catalogue: Catalogue::new(alloc),
         extents: Extents::new(alloc),
@@ -155,23 +151,23 @@ fn of_new_vault(alloc: Global) -> Result<Known, NoMemory>
 /// What entries make.
 #[derive(Drop)]
 pub struct Replayed {
-    pub known: Known,
+    pub index: Index,
     /// The offset of the first record that doesn't fit.
     pub bad: Option<u64>,
 }
 
 /// Replays entries from the state of a new vault on.
 pub fn replay(alloc: Global, entries: &[Placed]) -> Result<Replayed, NoMemory>
-    ensures { IfOk result (λ r. (records : List Found) → AreSized records → placed records ≡ entries.now → IsReplayed records r.known r.bad) }
+    ensures { IfOk result (λ r. (records : List Found) → AreSized records → placed records ≡ entries.now → IsReplayed records r.index r.bad) }
 {
-    let mut known = of_new_vault(alloc)?;
+    let mut index = of_new_vault(alloc)?;
     for placed in entries {
-        if !take(alloc, &mut known, placed)? {
+        if !replay_record(alloc, &mut index, placed)? {
             return Ok(Replayed {
-                known,
+                index,
                 bad: Some(placed.at),
             });
         }
     }
-    Ok(Replayed { known, bad: None })
+    Ok(Replayed { index, bad: None })
 }

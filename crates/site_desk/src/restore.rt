@@ -1,75 +1,47 @@
-// Which image's bytes a restore gives, and why there are none.
-ghost use Rattle.std.specs.Prelude.{◌≡◌, List, Some, None, IfOk, IfErr, codes, length};
-ghost use Rattle.site_types.specs.Ids.{copy_text, id_text};
-ghost use Rattle.site_types.specs.Limits.{payload_limit};
+// Where the bytes stand that a restore gives.
+ghost use Rattle.std.specs.Prelude.{◌≡◌, ◌≤◌, ℕ, List, Option, Some, IfOk, IfErr};
+ghost use Rattle.site_types.specs.Classes.{class_of, restore};
+ghost use Rattle.site_types.specs.Limits.{last_moment};
+ghost use Rattle.site_types.specs.Lines.{IsFormed};
 ghost use Rattle.pool_journal.specs.Records.{Found};
-ghost use Rattle.desk_model.specs.State.{Image, image_named};
-ghost use Rattle.desk_model.specs.Refusals.{first_refusal};
-ghost use Rattle.desk_model.specs.Step.{restore_refusals};
-ghost use Rattle.site_desk.specs.Extents.{Catalogued, extent_of};
-ghost use Rattle.site_desk.specs.Restores.{IsOr, IsRefusedAs, IsRestoreRefusal};
+ghost use Rattle.desk_model.specs.State.{Image, Stored, image_named};
+ghost use Rattle.desk_model.specs.Step.{bytes_of, step};
+ghost use Rattle.site_desk.specs.Extents.{extent_of};
+ghost use Rattle.site_desk.specs.Index.{built, Remembers};
+ghost use Rattle.site_desk.specs.Steps.{IsRefused, IsStepRefusal};
 
-use crate::extents::{Extent, Extents};
-use site_types::{Answer, BackupId, PAYLOAD_LIMIT, Text};
+use crate::extents::Extent;
+use crate::index::Index;
+use desk_rules::{Decision, decide};
+use site_types::{Answer, BackupId, Request};
 use std::alloc::Global;
 
-// The number of the one copy of an image, which is its primary one.
-const FIRST_COPY: u8 = 1;
-
-fn unknown_image(alloc: Global, id: &BackupId) -> Answer
-    ensures or { IsOr (Answer.Unknown (id_text id.now)) result }
-    ensures plain { IsRestoreRefusal result }
-{
-    match id.text(alloc) {
-        Ok(name) => Answer::Unknown { name },
-        Err(_) => Answer::OutOfMemory,
-    }
-}
-
-fn unknown_copy(alloc: Global, id: &BackupId, number: u8) -> Answer
-    ensures or { IsOr (Answer.Unknown (copy_text id.now number)) result }
-    ensures plain { IsRestoreRefusal result }
-{
-    match id.copy_text(alloc, number) {
-        Ok(name) => Answer::Unknown { name },
-        Err(_) => Answer::OutOfMemory,
-    }
-}
-
-fn too_long(alloc: Global, count: u64) -> Answer
-    ensures or { IsOr (Answer.TooMany (codes "bytes") count payload_limit) result }
-    ensures plain { IsRestoreRefusal result }
-{
-    match Text::new(alloc, b"bytes") {
-        Ok(kind) => Answer::TooMany {
-            kind,
-            count,
-            limit: PAYLOAD_LIMIT,
-        },
-        Err(_) => Answer::OutOfMemory,
-    }
-}
-
-/// Where the bytes stand that a restore of this image's copy gives, or why it is refused.
-pub fn wanted(
+/// Where the bytes stand of the image that a restore gives, or why it is refused.
+pub fn locate(
     alloc: Global,
-    extents: &Extents,
+    index: &Index,
+    request: &Request,
     id: &BackupId,
-    copy: Option<u8>,
+    payload: &[u8],
+    moment: u64,
 ) -> Result<Extent, Answer>
-    ensures found { (records : List Found) (images : List Image) → Catalogued records extents.now images → IfOk result (λ e. (first_refusal (restore_refusals (image_named id.now images) id.now copy) ≡ None) × (extent_of id.now extents.now ≡ Some e)) }
-    ensures refused { (records : List Found) (images : List Image) → Catalogued records extents.now images → IfErr result (IsRefusedAs (first_refusal (restore_refusals (image_named id.now images) id.now copy))) }
-    ensures plain { IfErr result IsRestoreRefusal }
+    requires restore { (copy : Option ℕ) × (class_of request.now ≡ restore id.now copy) }
+    requires formed { IsFormed request.now }
+    requires moment { moment ≤ last_moment }
+    ensures found { (records : List Found) (images : List Image) (stored : List Stored) → Remembers records index.now images → IfOk result (λ e. ((step (built index.now.site images stored) request.now payload.now moment).0 ≡ Answer.Done (bytes_of (image_named id.now images))) × (extent_of id.now index.now.extents ≡ Some e)) }
+    ensures refused { (records : List Found) (images : List Image) (stored : List Stored) → Remembers records index.now images → IfErr result (IsRefused (built index.now.site images stored) request.now payload.now moment) }
+    ensures plain { IfErr result IsStepRefusal }
 {
-    let Some(extent) = extents.find(id) else {
-        return Err(unknown_image(alloc, id));
+    let size = payload.len() as u64;
+    let Ok(decision) = decide(alloc, &index.site, &index.catalogue, request, size, moment) else {
+        return Err(Answer::OutOfMemory);
     };
-    let number = copy.unwrap_or(FIRST_COPY);
-    if number != FIRST_COPY {
-        return Err(unknown_copy(alloc, id, number));
+    let Decision { answer, change: _ } = decision;
+    let Answer::Done { body: _ } = &answer else {
+        return Err(answer);
+    };
+    match index.extents.find(id) {
+        Some(extent) => Ok(extent),
+        None => unreachable!(),
     }
-    if PAYLOAD_LIMIT < extent.length {
-        return Err(too_long(alloc, extent.length));
-    }
-    Ok(extent)
 }

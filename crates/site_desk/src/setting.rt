@@ -8,21 +8,18 @@ ghost use Rattle.pool_journal.specs.Records.{Found};
 ghost use Rattle.desk_model.specs.State.{Image, Stored};
 ghost use Rattle.desk_model.specs.Settings.{is_setting};
 ghost use Rattle.site_desk.specs.Stands.{settled, settled_by};
-ghost use Rattle.site_desk.specs.Known.{built, Remembers};
+ghost use Rattle.site_desk.specs.Index.{built, Remembers};
 ghost use Rattle.site_desk.specs.Replays.{setting_of, IsReached};
 
-use crate::known::Known;
-use site_types::{NoMemory, Request, Text, WordFault};
+use crate::index::Index;
+use site_types::{ByClass, NoMemory, Request, Text, WordFault};
 use std::alloc::{AllocError, Global};
 
 /// It changes the book or the zone.
 pub fn is_setting(request: &Request) -> bool
     ensures { result ≡ is_setting request.now }
 {
-    !matches!(
-        request,
-        Request::Load | Request::Backup { .. } | Request::Restore { .. }
-    )
+    matches!(request.by_class(), ByClass::SiteChange(_))
 }
 
 // The words of a line: the parts between its single spaces.
@@ -75,22 +72,22 @@ fn setting_of(alloc: Global, line: &[u8]) -> Result<Option<Request>, NoMemory>
 }
 
 // Carries out the request of a line of settings. False where the line is no such request, or it is refused.
-fn settle_line(alloc: Global, known: &mut Known, line: &[u8]) -> Result<bool, NoMemory>
-    ensures { (records : List Found) (images : List Image) (stored : List Stored) → Remembers records known.old images → IfOk result (IsReached records (settled_by (built known.old.site images stored) line.now) known.new) }
+fn settle_line(alloc: Global, index: &mut Index, line: &[u8]) -> Result<bool, NoMemory>
+    ensures { (records : List Found) (images : List Image) (stored : List Stored) → Remembers records index.old images → IfOk result (IsReached records (settled_by (built index.old.site images stored) line.now) index.new) }
 {
     let Some(request) = setting_of(alloc, line)? else {
         return Ok(false);
     };
-    Ok(known.set(alloc, &request)?.is_none())
+    Ok(index.set(alloc, &request)?.is_none())
 }
 
 /// Carries out the requests of lines of settings, one after the other. False where one of them can't be; then nothing is said of
-/// what is known.
-pub fn settle_lines(alloc: Global, known: &mut Known, lines: &[Text]) -> Result<bool, NoMemory>
-    ensures { (records : List Found) (images : List Image) (stored : List Stored) → Remembers records known.old images → IfOk result (IsReached records (settled (built known.old.site images stored) lines.now) known.new) }
+/// the index.
+pub fn settle_lines(alloc: Global, index: &mut Index, lines: &[Text]) -> Result<bool, NoMemory>
+    ensures { (records : List Found) (images : List Image) (stored : List Stored) → Remembers records index.old images → IfOk result (IsReached records (settled (built index.old.site images stored) lines.now) index.new) }
 {
     for line in lines {
-        if !settle_line(alloc, known, line.bytes())? {
+        if !settle_line(alloc, index, line.bytes())? {
             return Ok(false);
         }
     }

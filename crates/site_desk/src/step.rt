@@ -1,6 +1,7 @@
-ghost use Rattle.std.specs.Prelude.{◌≡◌, ◌≢◌, ◌≤◌, ℕ, true, false, List, length};
+ghost use Rattle.std.specs.Prelude.{◌≡◌, ◌≢◌, ◌≤◌, ℕ, true, false, length, Option};
 ghost use Rattle.vault_disk.specs.Disk.{IsSame};
 ghost use Rattle.vault_disk.specs.Steps.{HasCause, IsSameBut, Rose, Sends};
+ghost use Rattle.site_types.specs.Classes.{class_of, restore};
 ghost use Rattle.site_types.specs.Limits.{last_moment, payload_limit};
 ghost use Rattle.site_types.specs.Lines.{IsFormed};
 ghost use Rattle.site_desk.specs.Stands.{Standing, Between};
@@ -10,9 +11,9 @@ ghost use Rattle.site_desk.specs.Steps.{is_written, Steps};
 use crate::desk::Desk;
 use crate::prepare::prepare;
 use crate::record::write_record;
-use crate::restore::wanted;
+use crate::restore::locate;
 use pool_journal::JournalFault;
-use site_types::{Answer, BackupId, Request};
+use site_types::{Answer, BackupId, ByClass, Request};
 use std::alloc::Global;
 use vault_disk::{Failed, Machine, Vault};
 
@@ -35,9 +36,11 @@ impl<V: Vault> Desk<V> {
         ensures standing { (V.disk self.old.vault).tells → result ≢ Answer.DiskFault → Standing (V.disk self.new.vault) self.new.state }
         ensures stops { (V.disk self.old.vault).tells → Between self.old.state (reached self.old.state request.now payload.now moment result) (V.disk self.old.vault) (V.disk self.new.vault) }
     {
-        match request {
-            Request::Restore { id, copy } => self.restore(alloc, id, *copy),
-            _ => self.record(alloc, request, payload, moment),
+        match request.by_class() {
+            ByClass::Restore { id, copy: _ } => self.restore(alloc, request, id, payload, moment),
+            ByClass::SiteChange(_) | ByClass::SiteFile | ByClass::Backup { .. } => {
+                self.record(alloc, request, payload, moment)
+            }
         }
     }
 
@@ -56,7 +59,7 @@ impl<V: Vault> Desk<V> {
         ensures same { IsSame (V.disk self.old.vault) (V.disk self.new.vault) }
     {
         let end = self.journal.end();
-        let ready = match prepare(alloc, &mut self.known, end, request, payload, moment) {
+        let ready = match prepare(alloc, &mut self.index, end, request, payload, moment) {
             Ok(ready) => ready,
             Err(refusal) => return refusal,
         };
@@ -69,10 +72,20 @@ impl<V: Vault> Desk<V> {
         }
     }
 
-    // The image's bytes, from its copy of this number or, without one, from its primary copy.
-    fn restore(&mut self, alloc: Global, id: &BackupId, copy: Option<u8>) -> Answer
+    // The image's bytes.
+    fn restore(
+        &mut self,
+        alloc: Global,
+        request: &Request,
+        id: &BackupId,
+        payload: &[u8],
+        moment: u64,
+    ) -> Answer
         requires running { self.old.stopped ≡ false }
-        ensures steps { (payload : List ℕ) (moment : ℕ) → (V.disk self.old.vault).tells → Steps self.old.state (Request.Restore id.now copy) payload moment result (V.disk self.old.vault) (V.disk self.new.vault) self.new.state }
+        requires restore { (copy : Option ℕ) × (class_of request.now ≡ restore id.now copy) }
+        requires formed { IsFormed request.now }
+        requires moment { moment ≤ last_moment }
+        ensures steps { (V.disk self.old.vault).tells → Steps self.old.state request.now payload.now moment result (V.disk self.old.vault) (V.disk self.new.vault) self.new.state }
         ensures kinds { IsOfStep result }
         ensures refused { IsRefusal result → self.new ≡ self.old }
         ensures running { result ≢ Answer.DiskFault → self.new.stopped ≡ false }
@@ -80,7 +93,7 @@ impl<V: Vault> Desk<V> {
         ensures failed { result ≡ Answer.DiskFault → Rose (V.disk self.old.vault).faults (V.disk self.new.vault).faults }
         ensures same { IsSame (V.disk self.old.vault) (V.disk self.new.vault) }
     {
-        let found = match wanted(alloc, &self.known.extents, id, copy) {
+        let found = match locate(alloc, &self.index, request, id, payload, moment) {
             Ok(found) => found,
             Err(refusal) => return refusal,
         };

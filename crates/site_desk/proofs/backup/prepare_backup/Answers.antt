@@ -1,32 +1,32 @@
 use Rattle.std.proofs.Common.{◌∙◌, ap, sym, refl}
 use Rattle.pool_journal.specs.declared.entry.WholeImage.{WholeImage}
+use Rattle.site_desk.proofs.IndexLemmas.{remembers_same}
 use Rattle.site_desk.proofs.Sealing.{refusal_plain, refused_here, done_here, length_here, base_here, ready_here}
 use Rattle.site_desk.proofs.backup.prepare_backup.Goals as goal
 
 pub returns-in_default-change : goal.returns-in_default-change
 returns-in_default-change c = record {
   ready = λ records images stored remembers. tt;
-  refused = refused_here c.args.known.now c.args.request.now c.args.payload.now _ c.args.moment c.in-Ok.decision c.requires.backup refl c.in-Ok.ensures.decided c.in_default-change.not-SealNow;
-  plain = refusal_plain c.args.known.now c.args.request.now c.args.payload.now _ c.args.moment c.in-Ok.decision c.requires.backup refl c.in-Ok.ensures.decided c.in_default-change.not-SealNow;
-  site = refl;
-  unchanged = λ records images remembers. record { site = refl; catalogue = refl; extents = λ id. refl };
+  refused = refused_here c.args.index.now c.args.request.now c.args.payload.now _ c.args.moment c.in-Ok.decision c.requires.backup refl c.in-Ok.ensures.decided c.in_default-change.not-SealNow;
+  plain = refusal_plain c.args.index.now c.args.request.now c.args.payload.now _ c.args.moment c.in-Ok.decision c.requires.backup refl c.in-Ok.ensures.decided c.in_default-change.not-SealNow;
+  unchanged = record { site = refl; catalogue = refl; extents = λ id. refl };
 }
 
 pub unreachable-requires : goal.unreachable-requires
 unreachable-requires c =
-    let done = done_here c.args.known.now c.args.request.now c.args.payload.now _ c.args.moment c.in-Ok.decision c.requires.backup refl c.in-Ok.ensures.decided c.in-SealNow.body c.in-SealNow.is in
+    let done = done_here c.args.index.now c.args.request.now c.args.payload.now _ c.args.moment c.in-Ok.decision c.requires.backup refl c.in-Ok.ensures.decided c.in-SealNow.body c.in-SealNow.is in
     c.in_default-answer.not-Done done.0 done.1
 
 pub seal-requires-clause-length : goal.seal-requires-clause-length
 seal-requires-clause-length c =
-    ap (λ (w : WholeImage). w.length) c.whole_of.ensures ∙ length_here c.args.known.now c.args.request.now c.args.payload.now _ c.args.moment c.in-Ok.decision c.requires.backup refl c.in-Ok.ensures.decided c.in-SealNow.body c.in-SealNow.is
+    ap (λ (w : WholeImage). w.length) c.whole_of.ensures ∙ length_here c.args.index.now c.args.request.now c.args.payload.now _ c.args.moment c.in-Ok.decision c.requires.backup refl c.in-Ok.ensures.decided c.in-SealNow.body c.in-SealNow.is
 
 pub seal-requires-clause-base : goal.seal-requires-clause-base
 seal-requires-clause-base c zero_is =
-    let none = base_here c.args.known.now c.args.request.now c.args.payload.now _ c.args.moment c.in-Ok.decision c.requires.backup refl c.in-Ok.ensures.decided c.in-SealNow.body c.in-SealNow.is in
+    let none = base_here c.args.index.now c.args.request.now c.args.payload.now _ c.args.moment c.in-Ok.decision c.requires.backup refl c.in-Ok.ensures.decided c.in-SealNow.body c.in-SealNow.is in
     cc (sym zero_is ∙ ap (λ (w : WholeImage). w.base) c.whole_of.ensures ∙ none)
 
 pub returns-in-Ok-seal-clause-ready : goal.returns-in-Ok-seal-clause-ready
 returns-in-Ok-seal-clause-ready c records images stored remembers =
-    ready_here c.args.known.now c.args.request.now c.args.payload.now _ c.args.moment c.in-Ok.decision c.requires.backup refl c.in-Ok.ensures.decided c.in-SealNow.body c.in-SealNow.is records images stored c.args.end c.whole_of.result c.in-Ok-seal.staged c.in-Done.line c.seal.new.known remembers c.requires.moment c.whole_of.ensures c.in-Done.is
-    c.in-Ok-seal.ensures.staged (c.in-Ok-seal.ensures.taken records images stored remembers)
+    ready_here c.args.index.now c.args.request.now c.args.payload.now _ c.args.moment c.in-Ok.decision c.requires.backup refl c.in-Ok.ensures.decided c.in-SealNow.body c.in-SealNow.is records images stored c.args.end c.whole_of.result c.in-Ok-seal.staged c.in-Done.line c.seal.new.index remembers c.requires.moment c.whole_of.ensures c.in-Done.is
+    c.in-Ok-seal.ensures.staged (c.in-Ok-seal.ensures.taken records images stored (remembers_same records c.args.index.now _ images (record { site = refl; catalogue = refl; extents = λ id. refl }) remembers))

@@ -1,18 +1,10 @@
-use Rattle.std.proofs.Common.{◌≡◌, sym, subst, Result, Ok, Err}
-use Rattle.std.specs.Prelude.{OnErr}
+use Rattle.std.proofs.Common.{◌≡◌, sym, subst}
 use Rattle.pool_journal.specs.declared.entry.WholeImage.{WholeImage}
 use Rattle.site_desk.proofs.Sealing.{Takes, taken_in}
 use Rattle.site_desk.proofs.backup.seal.Goals as goal
 
-whatever : {T E P : Type 0} (result : Result T E) → P → OnErr result P
-whatever (Ok value) p = tt
-whatever (Err fault) p = p
-
-pub returns-in_err-take_image-clause-unchanged : goal.returns-in_err-take_image-clause-unchanged
-returns-in_err-take_image-clause-unchanged c records images remembers = whatever c.from_residual-in_err-take_image.result (c.in_err-take_image.ensures.unchanged records images remembers)
-
 pub returns-clause-taken : goal.returns-clause-taken
 returns-clause-taken c records images stored remembers =
     let is : c.args.image ≡ c.in-WholeImage.image = cc c.in-WholeImage.is in
-    let takes : Takes c.args.image c.next_extent-extent.result c.args.known.now c.take_image.new.known c.in_ok-take_image.field-0 = subst (λ (w : WholeImage). Takes w c.next_extent-extent.result c.args.known.now c.take_image.new.known c.in_ok-take_image.field-0) (sym is) c.in_ok-take_image.ensures.taken in
-    taken_in records c.args.end images stored c.args.image c.args.payload.now c.next_extent-extent.result c.args.known.now c.take_image.new.known c.in_ok-take_image.field-0 c.requires.length c.next_extent-extent.ensures.from c.next_extent-extent.ensures.length remembers takes c.if-not-branch.false
+    let takes : Takes c.args.image c.next_extent-extent.result c.args.index.now c.take_image.new.index c.in_ok-take_image.field-0 = subst (λ (w : WholeImage). Takes w c.next_extent-extent.result c.args.index.now c.take_image.new.index c.in_ok-take_image.field-0) (sym is) c.in_ok-take_image.ensures.taken in
+    taken_in records c.args.end images stored c.args.image c.args.payload.now c.next_extent-extent.result c.args.index.now c.take_image.new.index c.in_ok-take_image.field-0 c.requires.length c.next_extent-extent.ensures.from c.next_extent-extent.ensures.length remembers takes c.if-not-branch.false

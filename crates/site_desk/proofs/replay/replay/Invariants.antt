@@ -5,4 +5,4 @@ use Rattle.site_desk.proofs.ReplayLemmas.{SoFar}
 use Rattle.site_desk.proofs.replay.replay.Given as goal
 
 abbrev pub invariant-loop-placed : goal.invariant-loop-placed
-invariant-loop-placed l = (records : List Found) → AreSized records → placed records ≡ l.entries → SoFar records l.known l.placed-index
+invariant-loop-placed l = (records : List Found) → AreSized records → placed records ≡ l.entries → SoFar records l.index l.placed-index

@@ -8,14 +8,14 @@ loop-line-init c records images stored remembers = record { images = images; sto
 pub returns-then-not-branch : goal.returns-then-not-branch
 returns-then-not-branch c records images stored remembers =
     let far = c.loop-line.invariant records images stored remembers in
-    unsettled records _ c.args.lines.now c.loop-line.line-index c.line-item.result c.bytes.result.now c.loop-line.known c.settle_line.new.known c.in_ok-settle_line.field-0 far (omega arith) c.line-item.is c.bytes.ensures c.if-not-branch.true
+    unsettled records _ c.args.lines.now c.loop-line.line-index c.line-item.result c.bytes.result.now c.loop-line.index c.settle_line.new.index c.in_ok-settle_line.field-0 far (omega arith) c.line-item.is c.bytes.ensures c.if-not-branch.true
     (c.in_ok-settle_line.ensures records far.images far.stored far.remembers)
 
 pub loop-line-preserved : goal.loop-line-preserved
 loop-line-preserved c records images stored remembers =
     let far = c.loop-line.invariant records images stored remembers in
-    next_settled records _ c.args.lines.now c.loop-line.line-index c.line-item.result c.bytes.result.now c.loop-line.known c.settle_line.new.known c.in_ok-settle_line.field-0 far (omega arith) c.line-item.is c.bytes.ensures c.if-not-branch.false
+    next_settled records _ c.args.lines.now c.loop-line.line-index c.line-item.result c.bytes.result.now c.loop-line.index c.settle_line.new.index c.in_ok-settle_line.field-0 far (omega arith) c.line-item.is c.bytes.ensures c.if-not-branch.false
     (c.in_ok-settle_line.ensures records far.images far.stored far.remembers)
 
 pub returns : goal.returns
-returns c records images stored remembers = all_settled records _ c.args.lines.now c.loop-line.line-index c.loop-line.known (omega arith) (c.loop-line.invariant records images stored remembers)
+returns c records images stored remembers = all_settled records _ c.args.lines.now c.loop-line.line-index c.loop-line.index (omega arith) (c.loop-line.invariant records images stored remembers)

@@ -1,34 +1,38 @@
-// What a desk knows of the records of its journal.
-ghost use Rattle.std.specs.Prelude.{◌≡◌, List, length, Contains, true, None, IfOk, OnOk, OnErr};
-ghost use Rattle.pool_journal.specs.Records.{Found};
-ghost use Rattle.site_types.specs.Lines.{IsFormed};
-ghost use Rattle.policy_book.specs.Changes.{client_sealed, first_refusal};
-ghost use Rattle.policy_book.specs.Requests.{refusals_of};
+// The desk's index of its journal: the site, the catalogue, and where the bytes of each image stand.
+ghost use Rattle.std.specs.Prelude.{◌≡◌, None, is_some, OnOk, OnErr};
+ghost use Rattle.site_types.specs.declared.id.BackupId.{BackupId as Id};
+ghost use Rattle.policy_book.specs.Changes.{client_sealed};
 ghost use Rattle.image_catalogue.specs.Images.{record_named, with_record};
-ghost use Rattle.desk_model.specs.State.{Image, Stored, entries};
-ghost use Rattle.desk_model.specs.Settings.{is_setting, site_after};
-ghost use Rattle.site_desk.specs.Extents.{Adds};
-ghost use Rattle.site_desk.specs.Known.{built, Remembers, IsSet, SameKnown, is_settings};
-ghost use Rattle.site_desk.specs.Zoned.{IsZoned};
+ghost use Rattle.desk_rules.specs.SiteChanges.{CanBeMade, site_made};
+ghost use Rattle.site_desk.specs.Extents.{extent_of};
 
 use crate::extents::{Extent, Extents};
-use crate::zone::zone_given;
 use desk_model::Site;
-use desk_rules::{Change, decide};
+use desk_rules::{Change, Decision, SiteChange, decide};
 use image_catalogue::Catalogue;
-use policy_book::{Book, BookFault};
+use policy_book::Book;
 use site_types::{Answer, BackupId, ImageRecord, NoMemory, Request};
-use std::alloc::{AllocError, Global};
+use std::alloc::Global;
 
-/// The site, the images, and where their bytes stand.
+/// The site, the catalogue, and where the bytes of each image stand.
 #[derive(Drop)]
-pub struct Known {
+pub struct Index {
     pub site: Site,
     pub catalogue: Catalogue,
     pub extents: Extents,
+    // The images of the catalogue are those that have an extent.
+    ghost placed: { (id : Id) → is_some (extent_of id extents) ≡ is_some (record_named id catalogue) },
 }
 
-impl Known {
+impl Index {
+    ghost use Rattle.std.specs.Prelude.{List, length, Contains, true, IfOk};
+    ghost use Rattle.site_types.specs.Lines.{IsFormed};
+    ghost use Rattle.pool_journal.specs.Records.{Found};
+    ghost use Rattle.desk_model.specs.State.{Image, Stored, entries};
+    ghost use Rattle.desk_model.specs.Settings.{is_setting};
+    ghost use Rattle.site_desk.specs.Extents.{Adds};
+    ghost use Rattle.site_desk.specs.Index.{built, Remembers, IsSet, SameIndex};
+
     /// Carries out a request that changes the site, or answers why it is refused. A refusal, and want of memory, leave all as it
     /// was.
     pub fn set(&mut self, alloc: Global, request: &Request) -> Result<Option<Answer>, NoMemory>
@@ -39,10 +43,11 @@ impl Known {
         ensures unchanged { OnErr result (self.new ≡ self.old) }
     {
         let decision = decide(alloc, &self.site, &self.catalogue, request, 0, 0)?;
-        if !changes_site(&decision.change) {
-            return Ok(Some(decision.answer));
-        }
-        change_site(alloc, &mut self.site, request)?;
+        let Decision { answer, change } = decision;
+        let Change::Settings { change } = change else {
+            return Ok(Some(answer));
+        };
+        carry_out(alloc, &mut self.site, change)?;
         Ok(None)
     }
 
@@ -58,17 +63,18 @@ impl Known {
         ensures site { OnOk result (self.new.site ≡ record self.old.site { book = client_sealed image.id.client image.id.time self.old.site.book }) }
         ensures catalogue { OnOk result (self.new.catalogue ≡ with_record image self.old.catalogue) }
         ensures extents { OnOk result (Adds image.id extent self.old.extents self.new.extents) }
-        ensures site_kept { OnErr result (self.new.site ≡ self.old.site) }
-        ensures unchanged { (records : List Found) (images : List Image) → Remembers records self.old images → OnErr result (SameKnown self.old self.new) }
+        ensures unchanged { OnErr result (SameIndex self.old self.new) }
     {
         let id = image.id.copy(alloc)?;
         self.extents.add(image.id.copy(alloc)?, extent)?;
         let book = &mut self.site.book;
-        if let Err(fault) = add_image(alloc, book, &mut self.catalogue, image, &id) {
-            self.extents.remove(&id);
-            return Err(fault);
+        match add_image(alloc, book, &mut self.catalogue, image, &id) {
+            Ok(()) => Ok(()),
+            Err(fault) => {
+                self.extents.remove(&id);
+                Err(fault)
+            }
         }
-        Ok(())
     }
 }
 
@@ -94,27 +100,16 @@ fn add_image(
     sealed
 }
 
-fn changes_site(change: &Change) -> bool
-    ensures { result ≡ is_settings change.now }
-{
-    matches!(change, Change::Settings)
-}
-
-// Makes the change of a request that nothing refuses.
-fn change_site(alloc: Global, site: &mut Site, request: &Request) -> Result<(), NoMemory>
-    requires setting { is_setting request.now ≡ true }
-    requires zoned { IsZoned request.now }
-    requires allowed { first_refusal (refusals_of request.now site.old.book) ≡ None }
-    ensures changed { OnOk result (site.new ≡ site_after request.now site.old) }
+fn carry_out(alloc: Global, site: &mut Site, change: SiteChange<'_>) -> Result<(), NoMemory>
+    requires { CanBeMade site.old change }
+    ensures made { OnOk result (site.new ≡ site_made change.entry site.old) }
     ensures unchanged { OnErr result (site.new ≡ site.old) }
 {
-    if let Request::ZoneSet { rule, offset } = request {
-        site.zone = zone_given(alloc, rule.as_ref(), *offset)?;
-        return Ok(());
-    }
-    match site.book.apply(alloc, request) {
-        Ok(()) => Ok(()),
-        Err(BookFault::NoMemory) => Err(AllocError),
-        Err(_) => unreachable!(), // Nothing refuses it.
+    match change {
+        SiteChange::Book(staged) => site.book.carry_out(alloc, staged),
+        SiteChange::Zone(zone) => {
+            site.zone = zone;
+            Ok(())
+        }
     }
 }

@@ -1,0 +1,117 @@
+-- What a decision says of a step.
+use Rattle.std.proofs.Common.{◌≡◌, ◌≢◌, ◌∙◌, ℕ, List, [], ◌∷◌, length, map, Some, None, refl, sym, ap, subst}
+use Rattle.std.specs.Prelude.{Option, Bool, Contains, ◌++◌}
+use Rattle.site_types.specs.Classes.{RequestClass, site_change, site_file, backup, restore, class_of}
+use Rattle.site_types.specs.declared.answer.Answer.{Answer}
+use Rattle.site_types.specs.declared.answer.Answer.TheVariants.{Done}
+use Rattle.site_types.specs.declared.request.Request.{Request}
+use Rattle.site_types.specs.declared.request.Request.TheVariants as request
+use Rattle.policy_book.specs.declared.fault.BookFault.{BookFault}
+use Rattle.policy_book.specs.declared.fault.BookFault.TheVariants.{Exists, Unknown, InUse, TooMany, Rule, NoMemory}
+use Rattle.policy_book.specs.Requests.{refusals_of}
+use Rattle.desk_model.specs.State.{State, Image, Stored, entries}
+use Rattle.desk_model.specs.Refusals.{Case, first_refusal, unless_refused, step_of}
+use Rattle.desk_model.specs.Settings.{refusal_answer, use_refusals, setting_refusals}
+use Rattle.desk_model.specs.Step.{case_of, step}
+use Rattle.desk_rules.specs.declared.decision.Change.TheVariants.{Nothing}
+use Rattle.desk_rules.specs.declared.decision.Decision.{Decision}
+use Rattle.desk_rules.specs.Decisions.{IsStateOf, IsChange, DecidesAs, Decides, IsDecision, told}
+use Rattle.desk_rules.specs.Seen.{blank, seen}
+use Rattle.desk_rules.proofs.SeenLemmas.{entries_seen}
+use Rattle.site_desk.specs.Index.{built}
+use Rattle.site_desk.specs.Steps.{IsRefused, IsStepRefusal}
+use Rattle.site_desk.specs.declared.index.Index.{Index}
+use Rattle.site_desk.proofs.Refusing.{refused_as, ArePlain, first_plain, sized_seen}
+
+-- What a step refuses but by the bytes of a payload.
+
+plain_fault : (fault : BookFault) → IsStepRefusal (refusal_answer fault)
+plain_fault (Exists name) = (tt, tt)
+plain_fault (Unknown name) = (tt, tt)
+plain_fault (InUse name user) = (tt, tt)
+plain_fault (TooMany kind count limit) = (tt, tt)
+plain_fault (Rule rule) = (tt, tt)
+plain_fault NoMemory = (tt, tt)
+
+plain_uses : (request : Request) (s : State) → ArePlain (use_refusals request s)
+plain_uses (request.ClientRemove name) s = ((tt, tt), ((tt, tt), tt))
+plain_uses (request.PolicyRemove policy) s = ((tt, tt), ((tt, tt), tt))
+plain_uses r s = tt
+
+plain_before : (rs : List (Bool × BookFault)) (more : List (Bool × Answer)) → ArePlain more → ArePlain (map (λ (r : Bool × BookFault). (r.0, refusal_answer r.1)) rs ++ more)
+plain_before [] more plain = plain
+plain_before (r ∷ rs) more plain = (plain_fault r.1, plain_before rs more plain)
+
+pub plain_settings : (request : Request) (s : State) → ArePlain (setting_refusals request s)
+plain_settings request s = plain_before (refusals_of request s.site.book) (use_refusals request s) (plain_uses request s)
+
+plain_case : (s : State) (class : RequestClass) (payload : List ℕ) (moment : ℕ) → ArePlain (case_of s class payload moment).refusals
+plain_case s (site_change request) payload moment = plain_settings request s
+plain_case s site_file payload moment = tt
+plain_case s (backup client policy schedule start) payload moment = ((tt, tt), ((tt, tt), ((tt, tt), ((tt, tt), ((tt, tt), ((tt, tt), ((tt, tt), ((tt, tt), ((tt, tt), ((tt, tt), ((tt, tt), tt)))))))))))
+plain_case s (restore id copy) payload moment = ((tt, tt), ((tt, tt), ((tt, tt), tt)))
+
+-- A decision on a request of this class.
+module _ (s : State) (request : Request) (class : RequestClass) (payload : List ℕ) (moment : ℕ) (d : Decision) (class_is : class_of request ≡ class) (decided : IsDecision s request payload moment d) where
+  abbrev this : Case
+  this = case_of s class payload moment
+
+  abbrev first : Option Answer
+  first = first_refusal this.refusals
+
+  abbrev says : Option Answer → Type 0
+  says o = DecidesAs o (told class this.answer) (IsChange s class payload moment) d
+
+  said : says first
+  said = subst (λ (c : RequestClass). Decides s c payload moment d) class_is decided
+
+  step_is : step s request payload moment ≡ step_of s this
+  step_is = ap (λ (c : RequestClass). step_of s (case_of s c payload moment)) class_is
+
+  pub refused_so : (a : Answer) → first ≡ Some a → IsStepRefusal d.answer × IsRefused s request payload moment d.answer
+  refused_so a is =
+      let answer_is : a ≡ d.answer = sym (subst says is said).0 in
+      let plain : IsStepRefusal d.answer = subst IsStepRefusal answer_is (first_plain this.refusals a (plain_case s class payload moment) is) in
+      (plain, refused_as s request payload moment d.answer plain.1 (step_is ∙ ap (λ (o : Option Answer). unless_refused s o (unless_refused s (first_refusal this.shown) (this.answer, this.after))) is ∙ ap (λ (x : Answer). (x, s)) answer_is))
+
+  pub passed_so : first ≡ None → (d.answer ≡ told class this.answer) × IsChange s class payload moment d.change
+  passed_so none = subst says none said
+
+  pub step_so : first ≡ None → step s request payload moment ≡ unless_refused s (first_refusal this.shown) (this.answer, this.after)
+  step_so none = step_is ∙ ap (λ (o : Option Answer). unless_refused s o (unless_refused s (first_refusal this.shown) (this.answer, this.after))) none
+
+  -- what changes something isn't refused
+  pub none_so : d.change ≢ Nothing → first ≡ None
+  none_so changes = at first refl
+    where
+      at : (o : Option Answer) → first ≡ o → first ≡ None
+      at None is = is
+      at (Some a) is = absurd (changes (subst says is said).1)
+
+  -- nor is what is done
+  pub done_none : (body : List ℕ) → d.answer ≡ Done body → first ≡ None
+  done_none body done = at first refl
+    where
+      at : (o : Option Answer) → first ≡ o → first ≡ None
+      at None is = is
+      at (Some a) is = absurd (subst IsStepRefusal done (refused_so a is).0).1
+
+  -- what isn't decided as where nothing refuses it is refused
+  pub some_so : ((d.answer ≡ told class this.answer) → IsChange s class payload moment d.change → ⊥) → first ≡ Some d.answer
+  some_so other = at first refl
+    where
+      at : (o : Option Answer) → first ≡ o → first ≡ Some d.answer
+      at None is = absurd (other (passed_so is).0 (passed_so is).1)
+      at (Some a) is = is ∙ ap Some (sym (subst says is said).0)
+
+-- A decision over an index.
+
+abbrev pub Decided : Index → Request → ℕ → ℕ → Decision → Type 0
+Decided index request size moment d = (s : State) (bytes : List ℕ) → IsStateOf index.site index.catalogue s → length bytes ≡ size → IsDecision s request bytes moment d
+
+module _ (index : Index) (request : Request) (payload : List ℕ) (size moment : ℕ) (d : Decision) (size_is : length payload ≡ size) (decided : Decided index request size moment d) where
+  pub decided_on : (images : List Image) (stored : List Stored) → entries images ≡ index.catalogue → ((i : Image) → Contains images i → i.entry.length ≡ length i.bytes) → IsDecision (built index.site images stored) request payload moment d
+  decided_on images stored listed sized = decided (built index.site images stored) payload (record { site_is = refl; images_are = listed; sized = sized; idle = refl }) size_is
+
+  pub decided_seen : IsDecision (seen index.site index.catalogue) request payload moment d
+  decided_seen = decided_on (map blank index.catalogue) [] (entries_seen index.catalogue) (sized_seen index.catalogue)
