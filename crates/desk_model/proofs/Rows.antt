@@ -1,7 +1,10 @@
 -- Rows of the table of requests, worked out on the definitions: both sides of each equation compute to one value.
-use Rattle.std.proofs.Common.{◌≡◌, ℕ, refl, [], ◌∷◌, codes, false}
+use Rattle.std.proofs.Common.{◌≡◌, ℕ, List, refl, [], ◌∷◌, codes, false}
 use Rattle.std.specs.Fmt.{digits}
-use Rattle.std.specs.Prelude.{Option, Some, None, replicate}
+use Rattle.std.specs.Prelude.{Option, Some, None, replicate, unwrap_or}
+use Rattle.std.specs.Result.{result_ok}
+use Rattle.site_types.specs.Forms.{forms}
+use Rattle.site_types.specs.Lines.{read_line}
 use Rattle.site_types.specs.declared.answer.Answer.{Answer}
 use Rattle.site_types.specs.declared.answer.Answer.TheVariants.{Done, Exists, Unknown, InUse, Inactive, WindowClosed, AboveHigh, UnitFull}
 use Rattle.site_types.specs.declared.id.BackupId.{BackupId}
@@ -55,11 +58,16 @@ added = refl
 added_twice : answer (after initial (request.ClientAdd (codes "a"))) (request.ClientAdd (codes "a")) ≡ Exists (codes "a")
 added_twice = refl
 
-not_there : answer initial (request.ClientRemove (codes "b")) ≡ Unknown (codes "b")
+-- what a line asks for
+abbrev line : List ℕ → Request
+line text = unwrap_or (result_ok (read_line text)) request.Load
+
+not_there : answer initial (line (codes "client remove name=b")) ≡ Unknown (codes "b")
+unfolding forms
 not_there = refl
 
-in_use : answer backed_up (request.ClientRemove (codes "alpha")) ≡ InUse (codes "alpha") (codes "alpha_1000")
-unfolding digits
+in_use : answer backed_up (line (codes "client remove name=alpha")) ≡ InUse (codes "alpha") (codes "alpha_1000")
+unfolding digits forms
 in_use = refl
 
 built_in : answer initial (request.PolicyRemove (codes "adhoc")) ≡ InUse (codes "adhoc") (codes "desk")

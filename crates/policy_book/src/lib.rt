@@ -36,4 +36,3 @@ pub use units::{NewUnit, UnitChange};
 
 /// No memory was left.
 pub type NoMemory = std::alloc::AllocError;
-

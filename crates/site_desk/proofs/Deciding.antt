@@ -1,17 +1,17 @@
 -- What a decision says of a step.
 use Rattle.std.proofs.Common.{◌≡◌, ◌≢◌, ◌∙◌, ℕ, List, [], ◌∷◌, length, map, Some, None, refl, sym, ap, subst}
 use Rattle.std.specs.Prelude.{Option, Bool, Contains, ◌++◌}
+use Rattle.std.specs.Option.{option_map_or}
 use Rattle.site_types.specs.Classes.{RequestClass, site_change, site_file, backup, restore, class_of}
 use Rattle.site_types.specs.declared.answer.Answer.{Answer}
 use Rattle.site_types.specs.declared.answer.Answer.TheVariants.{Done}
 use Rattle.site_types.specs.declared.request.Request.{Request}
-use Rattle.site_types.specs.declared.request.Request.TheVariants as request
 use Rattle.policy_book.specs.declared.fault.BookFault.{BookFault}
 use Rattle.policy_book.specs.declared.fault.BookFault.TheVariants.{Exists, Unknown, InUse, TooMany, Rule, NoMemory}
 use Rattle.policy_book.specs.Requests.{refusals_of}
 use Rattle.desk_model.specs.State.{State, Image, Stored, entries}
 use Rattle.desk_model.specs.Refusals.{Case, first_refusal, unless_refused, step_of}
-use Rattle.desk_model.specs.Settings.{refusal_answer, use_refusals, setting_refusals}
+use Rattle.desk_model.specs.Settings.{Removal, gone_client, gone_policy, refusal_answer, removal_of, setting_refusals, use_refusals, uses_of}
 use Rattle.desk_model.specs.Step.{case_of, step}
 use Rattle.desk_rules.specs.declared.decision.Change.TheVariants.{Nothing}
 use Rattle.desk_rules.specs.declared.decision.Decision.{Decision}
@@ -33,10 +33,13 @@ plain_fault (TooMany kind count limit) = (tt, tt)
 plain_fault (Rule rule) = (tt, tt)
 plain_fault NoMemory = (tt, tt)
 
-plain_uses : (request : Request) (s : State) → ArePlain (use_refusals request s)
-plain_uses (request.ClientRemove name) s = ((tt, tt), ((tt, tt), tt))
-plain_uses (request.PolicyRemove policy) s = ((tt, tt), ((tt, tt), tt))
-plain_uses r s = tt
+plain_uses : (r : Request) (s : State) → ArePlain (use_refusals r s)
+plain_uses r s = at (removal_of r)
+  where
+    at : (o : Option Removal) → ArePlain (option_map_or (λ removal. uses_of removal s) o [])
+    at None = tt
+    at (Some (gone_client name)) = ((tt, tt), ((tt, tt), tt))
+    at (Some (gone_policy name)) = ((tt, tt), ((tt, tt), tt))
 
 plain_before : (rs : List (Bool × BookFault)) (more : List (Bool × Answer)) → ArePlain more → ArePlain (map (λ (r : Bool × BookFault). (r.0, refusal_answer r.1)) rs ++ more)
 plain_before [] more plain = plain

@@ -58,14 +58,14 @@ IsLine line = ReadsSetting (read_words line)
 
 -- What the values of a form's keys make.
 
+guarded_so : (b : Bool) (r : Request) → IsSetting r → OfSetting (if b then Some r else None)
+guarded_so true r setting = setting
+guarded_so false r setting = tt
+
 unit_add_so : (name : Option (List ℕ)) (capacity segment fragment slots high low : Option ℕ) → OfSetting (unit_add_of name capacity segment fragment slots high low)
 unit_add_so None capacity segment fragment slots high low = tt
 unit_add_so (Some name) None segment fragment slots high low = tt
-unit_add_so (Some name) (Some capacity) segment fragment slots high low = at (nat_lt (unwrap_or low 80) (unwrap_or high 98))
-  where
-    at : (b : Bool) → OfSetting (if b then Some (request.UnitAdd name capacity segment fragment slots high low) else None)
-    at true = refl
-    at false = tt
+unit_add_so (Some name) (Some capacity) segment fragment slots high low = guarded_so (nat_lt (unwrap_or low 80) (unwrap_or high 98)) _ refl
 
 named_so : (makes : List ℕ → Request) (name : Option (List ℕ)) → ((name : List ℕ) → IsSetting (makes name)) → OfSetting (option_map makes name)
 named_so makes None setting = tt
@@ -87,18 +87,10 @@ schedule_so None schedule kind frequency calendar windows = tt
 schedule_so (Some policy) None kind frequency calendar windows = tt
 schedule_so (Some policy) (Some schedule) None frequency calendar windows = tt
 schedule_so (Some policy) (Some schedule) (Some kind) frequency calendar None = tt
-schedule_so (Some policy) (Some schedule) (Some kind) frequency calendar (Some windows) = at (is_one frequency calendar)
-  where
-    at : (b : Bool) → OfSetting (if b then Some (request.ScheduleAdd policy schedule kind frequency calendar windows) else None)
-    at true = refl
-    at false = tt
+schedule_so (Some policy) (Some schedule) (Some kind) frequency calendar (Some windows) = guarded_so (is_one frequency calendar) _ refl
 
 zone_so : (rule : Option (List ℕ)) (offset : Option ℤ) → OfSetting (zone_of rule offset)
-zone_so rule offset = at (is_one rule offset)
-  where
-    at : (b : Bool) → OfSetting (if b then Some (request.ZoneSet rule offset) else None)
-    at true = refl
-    at false = tt
+zone_so rule offset = guarded_so (is_one rule offset) _ refl
 
 -- Lines that begin with the words of a form.
 
@@ -111,7 +103,8 @@ line_of : (name : FormName) (words : Line) → ((v : Given) → OfSetting ((form
 line_of name words makes = subst (λ (o : Option Form). ReadsSetting (read_as o (form_words (form_named name) ++ words))) (sym (are_found name words)) (read_so _ _ _ (makes _))
 
 zone_line : (words : Line) → IsLine (codes "bpzone" ∷ codes "set" ∷ words)
-zone_line words = line_of form.ZoneSet words (λ v. zone_so _ _)
+unfolding forms
+zone_line words = read_so _ _ _ (zone_so _ _)
 
 unit_line : (words : Line) → IsLine (codes "unit" ∷ codes "add" ∷ words)
 unit_line words = line_of form.UnitAdd words (λ v. unit_add_so (value_in name_of v name_key) (number_in v capacity_key) (number_in v segment_key) (number_in v fragment_key) (number_in v slots_key) (number_in v high_key) (number_in v low_key))
