@@ -3,6 +3,8 @@
 #![tactic(auto)]
 
 #[cfg(test)]
+mod disk_tests;
+#[cfg(test)]
 mod due_tests;
 #[cfg(test)]
 mod tests;

@@ -36,6 +36,3 @@ pub use whole::{ReadFault, read_fully, read_whole, zeros};
 
 /// Memory ran out.
 pub type NoMemory = std::alloc::AllocError;
-
-#[cfg(test)]
-mod tests;

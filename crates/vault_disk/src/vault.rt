@@ -6,7 +6,8 @@ ghost use Rattle.vault_disk.specs.Disk.{IsSame};
 #[derive(Clone, Copy, Debug, PartialEq, Eq)]
 pub struct Failed;
 
-/// A few numbered files. A file that was never written has length 0. Offsets and lengths are in bytes.
+/// A few numbered files. A file that was never written has length 0, and none is longer than 9,223,372,036,854,775,807. Offsets and
+/// lengths are in bytes.
 ///
 /// Between two syncs of a file a stop may leave any bytes in the ranges that were written, and any length between the
 /// old and the new. Files are independent of each other.
@@ -35,7 +36,8 @@ pub trait Vault {
         ensures same { IsSame (disk self.old) (disk self.new) }
         ensures cause { HasCause (disk self.old).faults (disk self.new).faults result };
 
-    /// Sets the length of a file: what stands behind it is dropped, and a gap is filled by zeros.
+    /// Sets the length of a file: what stands behind it is dropped, and a gap is filled by zeros. A length past
+    /// 9,223,372,036,854,775,807 fails.
     fn cut(&mut self, file: u32, length: u64) -> Result<(), Failed>
         ensures was_cut { (disk self.old).tells → WasCut file length (disk self.old) (disk self.new) result }
         ensures same { IsSame (disk self.old) (disk self.new) }
@@ -47,9 +49,10 @@ pub trait Vault {
         ensures same { IsSame (disk self.old) (disk self.new) }
         ensures cause { HasCause (disk self.old).faults (disk self.new).faults result };
 
-    /// The length of a file.
+    /// The length of a file, which is at most 9,223,372,036,854,775,807.
     fn length(&mut self, file: u32) -> Result<u64, Failed>
         ensures length { (disk self.old).tells → IfOk result (λ n. n ≡ length ((disk self.old).seen file)) }
+        ensures short { IfOk result (λ n. n < 2 ^ 63) }
         ensures looked { (disk self.old).tells → Looked (disk self.old) (disk self.new) }
         ensures same { IsSame (disk self.old) (disk self.new) }
         ensures cause { HasCause (disk self.old).faults (disk self.new).faults result };

@@ -175,7 +175,11 @@ impl<R: Files<File = File> + Print + io::Eprint + AllocGlobal + Drop> Vault for 
         match counted(self.folder.place_of(file, false), &mut self.faults)? {
             Some(place) => {
                 let about = self.folder.files[place].1.metadata();
-                Ok(counted(about, &mut self.faults)?.len())
+                let length = counted(about, &mut self.faults)?.len();
+                if length > LIMIT {
+                    return Err(raise(&mut self.faults));
+                }
+                Ok(length)
             }
             None => Ok(0),
         }

@@ -1,8 +1,8 @@
-use crate::{
+use std::alloc::Global;
+use vault_disk::{
     Clock, Failed, Machine, MemoryClock, MemoryMachine, MemorySource, NoMemory, Source,
     StandardSource, Vault, read_whole,
 };
-use std::alloc::Global;
 
 fn reads_as<V: Vault>(alloc: Global, vault: &mut V, file: u32, wanted: &[u8]) -> bool {
     match read_whole(alloc, vault, file) {
