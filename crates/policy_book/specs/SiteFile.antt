@@ -6,6 +6,7 @@ use Rattle.std.specs.Str.{bytes_eq}
 use Rattle.std.specs.Fmt.{signed_decimal}
 use Rattle.toml.specs.Data.{Data, string, integer, float, boolean, datetime, array, table, Items, no_items, item, Members, no_members, member, get_member}
 use Rattle.toml.specs.Parse.{parse_document}
+use Rattle.site_types.specs.Classes.{class_of, is_site_change}
 use Rattle.site_types.specs.Paths.{written}
 use Rattle.site_types.specs.Requests.{read_words}
 use Rattle.site_types.specs.declared.request.Request.{Request}
@@ -160,10 +161,20 @@ all_lines members =
 abbrev pub file_lines : Members → Option (List Line)
 file_lines members = if has_keys (codes "zone" ∷ codes "unit" ∷ codes "client" ∷ codes "policy" ∷ []) members then all_lines members else None
 
--- the requests that lines of words ask for, where each of them is one
+-- the change of the site that a line of words asks for, where it asks for one
+abbrev pub changes_site : Request → Bool
+changes_site request = is_site_change (class_of request)
+
+abbrev pub change_in : Request → Option Request
+change_in request = if changes_site request then Some request else None
+
+abbrev pub change_read : Line → Option Request
+change_read line = option_and_then change_in (result_ok (read_words line))
+
+-- the requests that lines ask for, where each of them is a change of the site
 abbrev pub requests_of : List Line → Option (List Request)
 requests_of [] = Some []
-requests_of (line ∷ lines) = option_and_then (λ request. option_map (λ requests. request ∷ requests) (requests_of lines)) (result_ok (read_words line))
+requests_of (line ∷ lines) = option_and_then (λ request. option_map (λ requests. request ∷ requests) (requests_of lines)) (change_read line)
 
 -- the requests of a site file, where the bytes are one
 abbrev pub site_requests : List ℕ → Option (List Request)

@@ -14,7 +14,6 @@ pub mod ReplayLemmas
 pub mod Restoring
 pub mod Sealing
 pub mod SettingLines
-pub mod SiteSettings
 pub mod Standings
 pub mod States
 pub mod Writing

@@ -1,5 +1,5 @@
 -- The requests of a site file, all of them or none.
-use Rattle.std.proofs.Common.{◌≡◌, ◌≢◌, ⊎_elim, ◌≤◌, ◌<◌, ◌+◌, ℕ, Bool, true, false, List, [], ◌∷◌, length, drop, get_or, Some, None, Ok, Err, refl, sym, ◌∙◌, ap, subst}
+use Rattle.std.proofs.Common.{◌≡◌, ◌≢◌, ⊎_elim, ◌≤◌, ◌<◌, ◌+◌, ℕ, zero, suc, Bool, true, false, List, [], ◌∷◌, length, drop, get_or, Some, None, Ok, Err, refl, sym, ◌∙◌, ap, subst, arith}
 use Rattle.std.specs.Prelude.{Option, Result, All, if◌then◌else◌, map, IsUtf8}
 use Rattle.std.specs.List.{AllPass}
 use Rattle.std.specs.Option.{option_map_or, option_and_then}
@@ -35,7 +35,6 @@ use Rattle.site_desk.proofs.Deciding.{Decided, decided_seen, passed_so}
 use Rattle.site_desk.proofs.Changing.{Sets, set_seen, setting_plain, settles}
 use Rattle.site_desk.proofs.IndexLemmas.{remembers_more}
 use Rattle.site_desk.proofs.Refusing.{refused_as, sized_seen}
-use Rattle.site_desk.proofs.SiteSettings.{Each, all-each}
 
 -- what follows a request in a list, where it is refused so or not at all
 abbrev unless_set : List Request → State → Option Answer → Result State Answer
@@ -105,12 +104,12 @@ refusal_plain requests old new a refused =
     each_plain requests (seen old.site old.catalogue) a (refused (map blank old.catalogue) [] (record { listed = entries_seen old.catalogue; sized = sized_seen old.catalogue }))
 
 -- Their lines make the state after them.
-lines_settled : (requests : List Request) (s t : State) → Each IsFormed requests → Each (λ (r : Request). is_setting r ≡ true) requests → all_set requests s ≡ Ok t → settled s (map line_of requests) ≡ Some t
+lines_settled : (requests : List Request) (s t : State) → All IsFormed requests → AllPass is_setting requests → all_set requests s ≡ Ok t → settled s (map line_of requests) ≡ Some t
 lines_settled [] s t formed settings is = let same : s ≡ t = cc is in ap Some same
-lines_settled (request ∷ requests) s t formed settings is = at (first_refusal (setting_refusals request s)) refl (lines_settled requests (set_by request s) t formed.1 settings.1) is
+lines_settled (request ∷ requests) s t formed settings is = at (first_refusal (setting_refusals request s)) refl (lines_settled requests (set_by request s) t (λ k d lt. formed (suc k) d (omega (arith, lt))) (λ k d lt. settings (suc k) d (omega (arith, lt)))) is
   where
     at : (o : Option Answer) → first_refusal (setting_refusals request s) ≡ o → (all_set requests (set_by request s) ≡ Ok t → settled (set_by request s) (map line_of requests) ≡ Some t) → unless_set requests (set_by request s) o ≡ Ok t → option_and_then (λ u. settled u (map line_of requests)) (settled_by s (line_of request)) ≡ Some t
-    at None here later rest = ap (λ (o : Option State). option_and_then (λ u. settled u (map line_of requests)) o) (settles s request settings.0 formed.0 here) ∙ later rest
+    at None here later rest = ap (λ (o : Option State). option_and_then (λ u. settled u (map line_of requests)) o) (settles s request (settings zero request (omega arith)) (formed zero request (omega arith)) here) ∙ later rest
     at (Some a) here later rest = absurd (cc rest)
 
 -- The answers to a load.
@@ -168,7 +167,7 @@ module _ (load : Request) (file : class_of load ≡ site_file) where
     staged_is = staged_is;
     images = images;
     stored = set.0;
-    applies = lines_settled requests (built old.site images stored) (built new.site images set.0) (all-each IsFormed requests formed) (all-each (λ (r : Request). is_setting r ≡ true) requests settings) set.1;
+    applies = lines_settled requests (built old.site images stored) (built new.site images set.0) formed settings set.1;
     steps = done_load load file payload moment (built old.site images stored) requests utf8 is (built new.site images set.0) set.1 ∙ ap (λ (b : List ℕ). (Done b, built new.site images set.0)) (sym body_is);
     remembers = λ short. remembers_more records (with_one records end (file_row requests)) new images (still_there records end (file_row requests)) remembers;
   }

@@ -8,7 +8,6 @@ use Rattle.site_desk.specs.Steps.{AreAllSet}
 use Rattle.site_desk.proofs.IndexLemmas.{remembers_same}
 use Rattle.site_desk.proofs.Loading.{always_loads, no_site, plain_site, file_row, ready_load, refused_all}
 use Rattle.site_desk.proofs.OfRequests.{of_request}
-use Rattle.site_desk.proofs.SiteSettings.{site_settings}
 use Rattle.site_desk.proofs.load.prepare_load.Goals as goal
 
 pub returns-in_default-change : goal.returns-in_default-change
@@ -21,12 +20,12 @@ pub returns-in-Err-NotASite-clause-plain : goal.returns-in-Err-NotASite-clause-p
 returns-in-Err-NotASite-clause-plain c = plain_site c.args.request.now c.requires.file c.args.payload.now (c.in-Err-NotASite.ensures.refused (ap Err c.in-Err-NotASite.field-0-is))
 
 pub set_all-requires-clause-settings : goal.set_all-requires-clause-settings
-set_all-requires-clause-settings c = subst (AllPass is_setting) (sym c.deref-2.ensures.value) (site_settings c.args.payload.now c.in-Ok-load.requests.items c.in-Ok-load.ensures.requests.1)
+set_all-requires-clause-settings c = subst (AllPass is_setting) (sym c.deref-2.ensures.value) c.in-Ok-load.ensures.changes
 
 pub returns-in-Ok-set_all-clause-ready : goal.returns-in-Ok-set_all-clause-ready
 returns-in-Ok-set_all-clause-ready c records images stored end remembers =
     ready_load c.args.request.now c.requires.file records end c.args.payload.now c.args.moment images stored c.in-Ok-load.requests.items c.in-Ok-stage_requests.ready.staged c.in-Ok-stage_requests.ready.body c.args.index.now c.set_all.new.index c.in-Ok-load.ensures.requests.0 c.in-Ok-load.ensures.requests.1 c.in-Ok-load.ensures.formed
-    (site_settings c.args.payload.now c.in-Ok-load.requests.items c.in-Ok-load.ensures.requests.1)
+    c.in-Ok-load.ensures.changes
     (subst (λ (rs : List Request). IsStaged (file_row rs) c.in-Ok-stage_requests.ready.staged) c.deref.ensures.value c.in-Ok-stage_requests.ensures.staged)
     (c.in-Ok-stage_requests.ensures.body ∙ ap count_text c.deref.ensures.value)
     (subst (λ (rs : List Request). AreAllSet (all_set rs (built c.args.index.now.site images stored)) images c.set_all.new.index (Ok tt)) c.deref-2.ensures.value (c.in-Ok-set_all.ensures.set images stored (record { listed = remembers.listed; sized = remembers.sized })))
