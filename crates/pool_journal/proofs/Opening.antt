@@ -1,5 +1,5 @@
 -- What an opening leaves.
-use Rattle.std.proofs.Common.{◌≡◌, ◌≢◌, ◌⊎◌, inl, inr, ℕ, ◌-◌, ◌≤◌, List, [], ◌∷◌, ◌++◌, length, replicate, refl, sym, ◌∙◌, ap, subst, arith, Ok, Err, ◌<◌, ◌^◌, lit<, length-append}
+use Rattle.std.proofs.Common.{◌≡◌, ◌≢◌, ◌⊎◌, inl, inr, ⊎_elim, ℕ, ◌-◌, ◌≤◌, List, [], ◌∷◌, ◌++◌, length, replicate, refl, sym, ◌∙◌, ap, subst, arith, Ok, Err, ◌<◌, ◌^◌, lit<, length-append}
 use Rattle.std.specs.Prelude.{Result, OnOk, Option, Some, None, nat_eq, false, drop, if◌then◌else◌}
 use Rattle.vault_disk.specs.Disk.{Disk, Image, During, IsSame, Now}
 use Rattle.vault_disk.specs.Steps.{written, Torn, Changes, IsDurable, WroteDurably, WasCut, Synced, LookedAround}
@@ -7,50 +7,90 @@ use Rattle.vault_disk.proofs.Moments.{goes_on, weaker}
 use Rattle.std.specs.List.{starts_with, common_prefix_len}
 use Rattle.pool_journal.specs.Records.{header, Found, Reading, found, broken, foreign, records, spelled, reading, Holds, IsToldOf}
 use Rattle.pool_journal.specs.declared.records.Placed.{Placed}
-use Rattle.pool_journal.specs.Stops.{AtRest, FromBefore, SameReading, OpenStops, Begins, IsOpened}
+use Rattle.pool_journal.specs.Stops.{AtRest, FromBefore, SameReading, Leaves, OpenStops, Begins, IsOpened}
 use Rattle.pool_journal.proofs.Bytes.{when_le, when_more, reads}
 
--- the file was synced, and looked at
+-- the file is durable, and was looked at
 pub record Settled (old now : Disk) : Type 0 where
   pub seen : (f : ℕ) → now.seen f ≡ old.seen f
   pub left : (c : Image) → now.may_leave c → old.may_leave c
-  pub durable : (c : Image) → now.may_leave c → c 0 ≡ old.seen 0
+  pub durable : (c : Image) → old.may_leave c → c 0 ≡ old.seen 0
   pub sent : now.sent ≡ old.sent
-  pub during : During old now (λ c b. old.may_leave c × (b ≡ old.sent))
+  pub during : During old now (Now old)
 
-pub settled : {T E : Type 0} (old mid now : Disk) (v : T) → Synced {T = T} {E = E} 0 old mid (Ok v) → IsSame old mid → LookedAround mid now → IsSame mid now → Settled old now
-settled old mid now v synced same looked same' = record {
-  seen = λ f. looked.rests.seen f ∙ synced.rests.seen f;
-  left = λ c left. synced.rests.left c (looked.rests.left c left);
-  durable = λ c left. synced.durable c (looked.rests.left c left);
-  sent = same'.sent ∙ same.sent;
-  during = goes_on old mid now (λ c b. old.may_leave c × (b ≡ old.sent))
-      (weaker old mid (Now mid) (λ c b. old.may_leave c × (b ≡ old.sent)) (λ c b left. (synced.rests.left c left.0, left.1 ∙ same.sent)) synced.time.during)
-      (weaker mid now (Now mid) (λ c b. old.may_leave c × (b ≡ old.sent)) (λ c b left. (synced.rests.left c left.0, left.1 ∙ same.sent)) looked.during);
-}
+pub settled : (old now : Disk) → IsDurable 0 old → LookedAround old now → IsSame old now → Settled old now
+settled old now durable looked same = record { seen = looked.rests.seen; left = looked.rests.left; durable = durable.only; sent = same.sent; during = looked.during }
 
 few : (bytes : List ℕ) → length bytes ≤ 17 → reading bytes ≡ found []
 few bytes le = when_le (length bytes) 17 (found []) _ le
 
-pub begin_stops : {T E : Type 0} (old mid now : Disk) (r : Result T E) → Settled old mid → length (mid.seen 0) ≤ 17 → Begins mid now r → OpenStops old now
-begin_stops old mid now r settled short begins =
-    let same : (c : Image) → FromBefore mid (λ bytes. length bytes ≤ 17) c → SameReading old c = λ c from. record {
-      from = from.from;
-      left = settled.left from.from from.left;
-      others = from.others;
-      inside = few (c 0) from.inside ∙ sym (few (old.seen 0) (subst (λ (l : List ℕ). length l ≤ 17) (settled.seen 0) short));
-    } in
-    record {
-      left = λ c left. inr (same c (begins.left c left));
-      during = goes_on old mid now (λ c b. (old.may_leave c ⊎ SameReading old c) × (b ≡ old.sent))
-          (weaker old mid (λ c b. old.may_leave c × (b ≡ old.sent)) (λ c b. (old.may_leave c ⊎ SameReading old c) × (b ≡ old.sent)) (λ c b left. (inl left.0, left.1)) settled.during)
-          (weaker mid now (λ c b. FromBefore mid (λ bytes. length bytes ≤ 17) c × (b ≡ mid.sent)) (λ c b. (old.may_leave c ⊎ SameReading old c) × (b ≡ old.sent)) (λ c b left. (inr (same c left.0), left.1 ∙ settled.sent)) begins.during);
-    }
+module _ (old mid : Disk) (settled : Settled old mid) where
+  same_left : (c : Image) → old.may_leave c → SameReading old c
+  same_left c left = record { from = c; left = left; others = λ g ne. refl; inside = ap reading (settled.durable c left) }
+
+  -- nothing was written
+  pub looked_stops : Leaves (SameReading old) old mid
+  looked_stops = record {
+    left = λ c left. same_left c (settled.left c left);
+    during = weaker old mid (Now old) (λ c b. SameReading old c × (b ≡ old.sent)) (λ c b left. (same_left c left.0, left.1)) settled.during;
+  }
+
+  -- a new journal was begun
+  pub begin_stops : {T E : Type 0} (now : Disk) (r : Result T E) → length (mid.seen 0) ≤ 17 → Begins mid now r → Leaves (SameReading old) old now
+  begin_stops now r short begins =
+      let same : (c : Image) → FromBefore mid (λ bytes. length bytes ≤ 17) c → SameReading old c = λ c from. record {
+        from = from.from;
+        left = settled.left from.from from.left;
+        others = from.others;
+        inside = few (c 0) from.inside ∙ sym (few (old.seen 0) (subst (λ (l : List ℕ). length l ≤ 17) (settled.seen 0) short));
+      } in
+      record {
+        left = λ c left. same c (begins.left c left);
+        during = goes_on old mid now (λ c b. SameReading old c × (b ≡ old.sent)) looked_stops.during
+            (weaker mid now (λ c b. FromBefore mid (λ bytes. length bytes ≤ 17) c × (b ≡ mid.sent)) (λ c b. SameReading old c × (b ≡ old.sent)) (λ c b left. (same c left.0, left.1 ∙ settled.sent)) begins.during);
+      }
+
+-- the first sync failed
+pub unsynced : {T E : Type 0} (old now : Disk) (e : E) → Synced {T = T} {E = E} 0 old now (Err e) → IsSame old now → OpenStops old now
+unsynced old now e synced same = inl (record {
+  left = synced.rests.left;
+  during = weaker old now (Now now) (λ c b. old.may_leave c × (b ≡ old.sent)) (λ c b left. (synced.rests.left c left.0, left.1 ∙ same.sent)) synced.time.during;
+})
+
+-- or it succeeded
+module _ {T E : Type 0} (old mid : Disk) (v : T) (synced : Synced {T = T} {E = E} 0 old mid (Ok v)) where
+  pub durable_now : IsDurable 0 mid
+  durable_now = record { only = λ c left. synced.durable c left ∙ sym (synced.rests.seen 0) }
+
+  pub synced_on : (now : Disk) → IsSame old mid → ((c : Image) (b : List ℕ) → mid.left_since mid.moment c b → mid.may_leave c × (b ≡ mid.sent)) → Leaves (SameReading mid) mid now → OpenStops old now
+  synced_on now same only_now leaves =
+      let here : (c : Image) → SameReading mid c → SameReading old c = λ c from. record {
+        from = from.from;
+        left = synced.rests.left from.from from.left;
+        others = from.others;
+        inside = from.inside ∙ ap reading (synced.rests.seen 0);
+      } in
+      let left_now : (c : Image) → mid.may_leave c → SameReading old c = λ c left. record { from = c; left = synced.rests.left c left; others = λ g ne. refl; inside = ap reading (synced.durable c left) } in
+      let P : Image → List ℕ → Type 0 = λ c b. (old.may_leave c ⊎ SameReading old c) × (b ≡ old.sent) in
+      inr (record {
+        leaves = record {
+          left = λ c left. inr (here c (leaves.left c left));
+          during = goes_on old mid now P
+              (weaker old mid (Now mid) P (λ c b left. (inl (synced.rests.left c left.0), left.1 ∙ same.sent)) synced.time.during)
+              (weaker mid now (λ c b. SameReading mid c × (b ≡ mid.sent)) P (λ c b left. (inr (here c left.0), left.1 ∙ same.sent)) leaves.during);
+        };
+        since = mid.moment;
+        within = leaves.during.later;
+        from_then = λ c b left. ⊎_elim
+            (λ was. let still = only_now c b was in (left_now c still.0, still.1 ∙ same.sent))
+            (λ since. (here c since.0, since.1 ∙ same.sent))
+            (leaves.during.each mid.moment c b (omega arith) left);
+      })
 
 pub found_rest : (old now : Disk) (bytes : List ℕ) (es : List Found) (end : ℕ) → length bytes < 2 ^ 63 → Settled old now → bytes ≡ old.seen 0 → Holds bytes es end → (reading (old.seen 0) ≡ found es) × AtRest now end es
 found_rest old now bytes es end long settled bytes_are holds = (
   ap reading (sym bytes_are) ∙ reads bytes es end holds,
-  record { holds = subst (λ (l : List ℕ). Holds l es end) (bytes_are ∙ sym (settled.seen 0)) holds; reads = ap reading (settled.seen 0 ∙ sym bytes_are) ∙ reads bytes es end holds; short = omega (arith, long, ap length holds.is, holds.end_is, length-append (header ++ spelled holds.bodies) (holds.gate ∷ holds.tail)); durable = record { only = λ c left. settled.durable c left ∙ sym (settled.seen 0) } },
+  record { holds = subst (λ (l : List ℕ). Holds l es end) (bytes_are ∙ sym (settled.seen 0)) holds; reads = ap reading (settled.seen 0 ∙ sym bytes_are) ∙ reads bytes es end holds; short = omega (arith, long, ap length holds.is, holds.end_is, length-append (header ++ spelled holds.bodies) (holds.gate ∷ holds.tail)); durable = record { only = λ c left. settled.durable c (settled.left c left) ∙ sym (settled.seen 0) } },
 )
 
 pub begins : {T E : Type 0} (old mid now : Disk) (v : T) (r : Result T E) (first : List ℕ) → length (old.seen 0) ≤ 17 → IsDurable 0 old → first ≡ header ++ 0 ∷ [] → WasCut {T = T} {E = E} 0 0 old mid (Ok v) → IsSame old mid

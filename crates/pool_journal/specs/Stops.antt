@@ -44,13 +44,28 @@ pub record Stops (fs : List Found) (at : ℕ) (r : Record) (old new : Disk) : Ty
   pub left : (c : Image) → new.may_leave c → FromBefore old (IsBeforeOrAfter fs at r) c
   pub during : During old new (Appending fs at r old)
 
--- what a stop in an opening leaves: what it could leave before, or a file 0 that reads the same
+-- file 0 reads the same, and the others are as a stop could leave them before
 abbrev pub SameReading : Disk → Image → Type 0
 SameReading old c = FromBefore old (λ bytes. reading bytes ≡ reading (old.seen 0)) c
 
-pub record OpenStops (old new : Disk) : Type 0 where
-  pub left : (c : Image) → new.may_leave c → old.may_leave c ⊎ SameReading old c
-  pub during : During old new (λ c b. (old.may_leave c ⊎ SameReading old c) × (b ≡ old.sent))
+-- a stop leaves such images alone, now and before
+pub record Leaves (Left : Image → Type 0) (old new : Disk) : Type 0 where
+  pub left : (c : Image) → new.may_leave c → Left c
+  pub during : During old new (λ c b. Left c × (b ≡ old.sent))
+
+-- from a moment on a stop leaves such images alone, and until then what it could leave before
+pub record LeavesFrom (Then : Image → Type 0) (old new : Disk) : Type 0 where
+  pub leaves : Leaves (λ c. old.may_leave c ⊎ Then c) old new
+  pub since : ℕ
+  pub within : since ≤ new.moment
+  pub from_then : (c : Image) (b : List ℕ) → new.left_since since c b → Then c × (b ≡ old.sent)
+
+-- what a stop in an opening leaves: what it could leave before, until the first sync of file 0 has succeeded
+abbrev pub OpensTo : (Image → Type 0) → Disk → Disk → Type 0
+OpensTo Then old new = Leaves old.may_leave old new ⊎ LeavesFrom Then old new
+
+abbrev pub OpenStops : Disk → Disk → Type 0
+OpenStops old new = OpensTo (SameReading old) old new
 
 -- an opening found what is read of the journal: all of it, at rest, or its records before one that is broken
 abbrev pub IsOpened : Reading → Disk → ℕ → List Placed → Option ℕ → Type 0

@@ -9,7 +9,7 @@ ghost use Rattle.std.specs.List.{starts_with, common_prefix_len};
 ghost use Rattle.vault_disk.specs.Disk.{IsSame};
 ghost use Rattle.vault_disk.specs.Steps.{HasCause, IsDurable, Rose};
 ghost use Rattle.pool_journal.specs.Records.{header, reading, placed, IsToldOf};
-ghost use Rattle.pool_journal.specs.Stops.{IsOpened, IsForeign, OpenStops, Begins};
+ghost use Rattle.pool_journal.specs.Stops.{IsOpened, IsForeign, Leaves, OpenStops, SameReading, Begins};
 
 use crate::fault::JournalFault;
 use crate::journal::Journal;
@@ -43,6 +43,17 @@ impl Journal {
         ensures failed { IsErrOf result JournalFault.DiskFault → Rose (V.disk vault.old).faults (V.disk vault.new).faults }
     {
         vault.sync(0)?;
+        Journal::read_file(alloc, vault)
+    }
+
+    // Reads the journal of a file that a stop leaves as it is read.
+    fn read_file<V: Vault>(alloc: Global, vault: &mut V) -> Result<Opened, JournalFault>
+        ensures found { (V.disk vault.old).tells → IsDurable 0 (V.disk vault.old) → IfOk result (λ o. IsOpened (reading ((V.disk vault.old).seen 0)) (V.disk vault.new) o.journal o.entries.items o.bad) }
+        ensures not_a_vault { (V.disk vault.old).tells → IfErr result (IsForeign (reading ((V.disk vault.old).seen 0))) }
+        ensures stops { (V.disk vault.old).tells → IsDurable 0 (V.disk vault.old) → Leaves (SameReading (V.disk vault.old)) (V.disk vault.old) (V.disk vault.new) }
+        ensures same { IsSame (V.disk vault.old) (V.disk vault.new) }
+        ensures failed { IsErrOf result JournalFault.DiskFault → Rose (V.disk vault.old).faults (V.disk vault.new).faults }
+    {
         let bytes = read_whole(alloc, vault, 0)?;
         if bytes.len() <= 17 {
             begin(vault)?;
