@@ -1,19 +1,24 @@
 // Trusted: that reads and writes are at their offsets and a cut sets the length, that a synced file is durable, and its name
-// too once its folder is, that no other process has the folder while its file 0 is locked, and that what is sent is written
-// to standard output.
+// too once its folder is, that no other process has the folder while its file 0 is locked, that what is made is its owner's
+// alone, and that what is sent is written to standard output.
 ghost use Rattle.std.specs.Prelude.{◌≡◌, ◌<◌, ◌≤◌, length, vec_len, IfOk, IfSome};
 
 use super::standard_source::read_some;
 use crate::faults::{counted, raise};
 use crate::folder_path::{folders_of, refusal};
 use crate::{Failed, Machine, Vault};
-use std::fs::{File, OpenOptions};
+use std::fs::{DirBuilder, File, OpenOptions};
 use std::io::Read;
-use std::os::unix::fs::FileExt;
+use std::os::unix::fs::{DirBuilderExt, FileExt, OpenOptionsExt};
 use std::rt::Files;
 use std::{fs, io};
 
 const LIMIT: u64 = (1 << 63) - 1;
+
+// A vault holds backups, so what is made of it is for its owner alone. What is there keeps its mode.
+const FOLDER_MODE: u32 = 0o700;
+
+const FILE_MODE: u32 = 0o600;
 
 #[derive(Drop)]
 struct Folder<R: Files<File = File> + io::Eprint + AllocGlobal + Drop> {
@@ -72,7 +77,11 @@ impl<R: Files<File = File> + io::Eprint + AllocGlobal + Drop> Folder<R> {
     fn open(&self, number: u32, is_made: bool) -> io::Result<File> {
         let path = format!(in self.rt.alloc(); "{}/{number}.nbv", self.path)?;
         let mut options = OpenOptions::new();
-        options.read(true).write(true).create(is_made);
+        options
+            .read(true)
+            .write(true)
+            .create(is_made)
+            .mode(FILE_MODE);
         options.open(&self.rt, path.as_str())
     }
 
@@ -198,7 +207,7 @@ impl<R: Files<File = File> + Print + io::Eprint + AllocGlobal + Drop> Machine fo
 fn make_folder(rt: &(impl Files<File = File> + AllocGlobal), path: &str) -> io::Result<()> {
     for (folder, above) in folders_of(rt.alloc(), path)? {
         if fs::metadata(rt, folder).is_err() {
-            match fs::create_dir(rt, folder) {
+            match DirBuilder::new().mode(FOLDER_MODE).create(rt, folder) {
                 // Another process may have made it since.
                 Err(fault) if fault.kind() != io::ErrorKind::AlreadyExists => return Err(fault),
                 _ => sync_folder(rt, above)?,
