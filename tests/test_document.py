@@ -1,4 +1,4 @@
-"""The operator's document: its worked commands print what it says, and its site files load."""
+"""The documents: their worked commands print what they say and leave nothing behind, and the site files load."""
 
 import os
 import re
@@ -10,6 +10,10 @@ import vault
 from desk import DeskTest
 
 DOCUMENT = desk.ROOT / "docs/operators.md"
+README = desk.ROOT / "README.md"
+
+# What some commands leave for those behind them.
+KEPT = ("site.toml",)
 
 
 def parts(document):
@@ -33,13 +37,22 @@ def site_files(document):
 class Document(DeskTest):
     def test_worked_commands_print_what_it_says(self):
         """They are pasted one after another, at the top of a folder in which the program has the launcher's name."""
-        found = worked(DOCUMENT.read_text())
-        self.assertTrue(found, "no worked commands")
         os.symlink(desk.PROGRAM, Path(self.top, "bpdesk"))
-        for commands, printed in found:
-            with self.subTest(commands=commands):
-                ran = subprocess.run(["bash"], input=commands, stdout=subprocess.PIPE, cwd=self.top, text=True, timeout=desk.PATIENCE)
-                self.assertEqual(ran.stdout.rstrip("\n"), printed.rstrip("\n"))
+        for document in (README, DOCUMENT):
+            found = worked(document.read_text())
+            self.assertTrue(found, f"no worked commands in {document}")
+            for commands, printed in found:
+                with self.subTest(commands=commands):
+                    ran = subprocess.run(["bash"], input=commands, stdout=subprocess.PIPE, cwd=self.top, text=True, timeout=desk.PATIENCE)
+                    self.assertEqual(ran.stdout.rstrip("\n"), printed.rstrip("\n"))
+                    left = {*os.listdir(self.top)} - {"bpdesk", *KEPT}
+                    if "rm -r" in commands:
+                        self.assertEqual(left, set(), "the commands leave files behind")
+
+    def test_readme_begins_with_its_two_commands(self):
+        text = README.read_text()
+        self.assertLess(len(text.split()), 1000)
+        self.assertRegex(text, r"\A# [^\n]*\n\n[^\n]*\n\n    printf hello \| ./bpdesk ./vault bpbackup client=alpha\n    .ci/run\n\n")
 
     def test_each_site_file_loads(self):
         found = site_files(DOCUMENT.read_text())
