@@ -35,7 +35,7 @@ def names_of(suite):
 
 def main(words):
     if not desk.is_built():
-        print(f"there is no program at {desk.PROGRAM}: run ./bpdesk once, which builds it")
+        print(f"there is no program at {desk.PROGRAM}: run make, which builds it")
         print("tests: 0 passed, 1 failed")
         return 1
     found = names_of(unittest.defaultTestLoader.discover(str(desk.ROOT / "tests")))
