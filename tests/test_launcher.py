@@ -154,11 +154,11 @@ class Launcher(StandInTest):
         self.assertEqual(sorted(it.name for it in self.top.iterdir()), ["a repository", "kit"])
 
     def test_words_of_each_form_build(self):
-        lines = [line.split() for line in re.findall(r"(?m)^  (\S.*)$", (desk.ROOT / "share/usage.txt").read_text())]
-        self.assertGreaterEqual(len(lines), 18)
+        forms = re.findall(r"(?m)^  ([a-z-]+(?: [a-z-]+)?)(?: .*[=<].*)?$", (desk.ROOT / "share/usage.txt").read_text())
+        self.assertGreaterEqual(len(forms), 18)
         # (in place of the build script, one that says that it was called)
         self.put("tools/build", "#!/bin/sh\nexit 99\n")
-        for words in [*([it for it in line if it.isalpha() or "-" in it] for line in lines), ["session"], ["@5", "bpload"]]:
+        for words in [*map(str.split, forms), ["session"], ["@5", "bpload"]]:
             with self.subTest(words=words):
                 self.assertEqual(self.run_it("./vault", *words).returncode, 99)
 

@@ -110,7 +110,7 @@ class Share(unittest.TestCase):
         self.assertEqual(len(usage_lines()), len(TABLE))
         for (words, keys, takes_payload), line in zip(TABLE, usage_lines()):
             self.assertEqual(line.split()[: len(words)], list(words))
-            self.assertEqual(tuple(re.findall(r"([a-z-]+)=", line)), keys)
+            self.assertEqual(tuple(re.findall(r"([a-z0-9-]+)=", line)), keys)
             self.assertEqual(line.endswith(" <FILE"), takes_payload)
 
     def test_a_difference_is_told(self):
