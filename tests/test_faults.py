@@ -8,7 +8,7 @@ import subprocess
 from pathlib import Path
 
 import vault
-from desk import PROGRAM, Desk, DeskTest
+from desk import PROGRAM, Desk, DeskTest, frame
 from test_backup import HELLO
 
 BACKUP = "@1 bpbackup client=a"
@@ -28,7 +28,10 @@ class Folders(DeskTest):
 
     def test_a_folder_with_no_name(self):
         """As from a variable of a script that was not set: nothing may be written where the program happens to run."""
-        self.check_told(Desk("").run(BACKUP, payload=b"x", cwd=self.top), 18, b"disk fault\n")
+        desk = Desk("")
+        self.check_told(desk.run(BACKUP, payload=b"x", cwd=self.top), 18, b"disk fault\n", b"no name")
+        self.check_told(desk.run("session", payload=b"", cwd=self.top), 18, frame(18, b"disk fault\n"), b"no name")
+        self.check_quiet(desk.run("client add", cwd=self.top), 2, b"bad request at 2\n")
         self.assertEqual(os.listdir(self.top), [])
 
     def test_a_name_that_is_too_long(self):

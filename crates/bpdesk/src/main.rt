@@ -8,6 +8,7 @@ use site_types::{Answer, NoMemory, Text};
 use std::alloc::Global;
 use std::env;
 use std::fs::File;
+use std::io::ErrorKind;
 use std::process::ExitCode;
 use vault_disk::{FolderMachine, StandardSource, SystemClock};
 
@@ -31,20 +32,21 @@ fn main(rt: HostRuntime) -> ExitCode {
         File::open(&rt, "/"),
         File::open(&rt, "/"),
     ];
-    let Ok(mut arguments) = env::args(&rt) else {
-        let _ = eprintln!(rt; "bpdesk: a word is not UTF-8, or there is no memory for the words");
-        return ExitCode::from(BAD_REQUEST);
+    let mut arguments = match env::args(&rt) {
+        Ok(arguments) => arguments,
+        Err(fault) if fault.kind() == ErrorKind::OutOfMemory => {
+            return ExitCode::from(Answer::OutOfMemory.number());
+        }
+        Err(_) => {
+            let _ = eprintln!(rt; "bpdesk: a word is not UTF-8");
+            return ExitCode::from(BAD_REQUEST);
+        }
     };
     let _program = arguments.next();
     let Some(folder) = arguments.next() else {
         let _ = eprintln!(rt; "usage: bpdesk FOLDER WORDS");
         return ExitCode::from(BAD_REQUEST);
     };
-    if folder.is_empty() {
-        let _ = eprintln!(rt; "bpdesk: the folder has no name");
-        let _ = println!(rt; "disk fault");
-        return ExitCode::from(Answer::DiskFault.number());
-    }
     let Ok(words) = texts(rt.alloc(), arguments) else {
         return ExitCode::from(Answer::OutOfMemory.number());
     };

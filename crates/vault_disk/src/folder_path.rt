@@ -34,6 +34,7 @@ pub(crate) fn refusal(alloc: Global, path: &str, fault: &io::Error) -> Result<St
         ErrorKind::WouldBlock => {
             format!(in alloc; "bpdesk: the vault {path} is in use by another process")
         }
+        _ if path.is_empty() => format!(in alloc; "bpdesk: the folder has no name"),
         _ => format!(in alloc; "bpdesk: cannot open {path}: {fault}"),
     }
 }

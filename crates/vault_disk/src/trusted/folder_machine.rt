@@ -68,6 +68,9 @@ impl<R: Files<File = File> + io::Eprint + AllocGlobal + Drop> Folder<R> {
     }
 
     fn lock(&self) -> io::Result<File> {
+        if self.path.is_empty() {
+            return Err(io::Error::from(io::ErrorKind::NotFound));
+        }
         make_folder(&self.rt, self.path.as_str())?;
         let file = self.open(0, true)?;
         file.try_lock()?;
