@@ -1,5 +1,5 @@
 -- The words of a form in the order of its keys: they give the same values as the words that were read, and none of them is bad.
-use Rattle.std.proofs.Common.{◌≡◌, ℕ, ◌+◌, List, [], ◌∷◌, ◌++◌, Bool, true, false, not, ◌&&◌, ◌||◌, if◌then◌else◌, Option, Some, None, unwrap_or, refl, sym, ap, ◌∙◌}
+use Rattle.std.proofs.Common.{◌≡◌, ℕ, ◌+◌, List, [], ◌∷◌, ◌++◌, Bool, true, false, not, ◌&&◌, ◌||◌, if◌then◌else◌, Option, Some, None, refl, sym, ap, ◌∙◌}
 use Rattle.std.specs.List.{list_all}
 use Rattle.std.specs.Str.{bytes_eq}
 use Rattle.std.proofs.lemmas.Bool.{and_from, or_left, or_right, or_from, not_from_false, not-true, false_from_ne_true, true≢false, false≢true}
@@ -7,6 +7,7 @@ use Rattle.std.proofs.lemmas.List.Folds.{list_any-append}
 use Rattle.std.proofs.lemmas.Slice.Eq.{bytes_eq-Decides}
 use Rattle.site_types.specs.Keys.{Key, is_word, has_equals, key_of, value_of, allows, has_key, is_good, first_bad, has_name, value_among}
 use Rattle.site_types.specs.Lines.{Field, words_with, word_with}
+use Rattle.site_types.proofs.OptionLemmas.{same_value}
 use Rattle.site_types.proofs.WordLemmas.{is_key, key_of-word_with, value_of-word_with, has_equals-word_with, is_word-word_with, is_word-value_of}
 
 -- keys of different names, each of which may stand before an equals sign
@@ -39,9 +40,6 @@ good_parts false b c d is = absurd (false≢true is)
 passed : (b : Bool) (rest : Option ℕ) (index : ℕ) → (if b then rest else Some index) ≡ None → (b ≡ true) × (rest ≡ None)
 passed true rest index none = (refl, none)
 passed false rest index none = absurd (cc none)
-
-pub same_value : {A : Type 0} (x y : A) → Some x ≡ Some y → x ≡ y
-same_value {A} x y is = ap (λ (o : Option A). unwrap_or o x) is
 
 found : (b : Bool) (here value : List ℕ) (later : Option (List ℕ)) (P : Type 0) → (b ≡ true → here ≡ value → P) → (later ≡ Some value → P) → (if b then Some here else later) ≡ Some value → P
 found true here value later P first rest is = first refl (same_value here value is)

@@ -14,8 +14,8 @@ use Rattle.site_types.specs.declared.forms.Form.{Form as Row}
 use Rattle.site_types.specs.declared.forms.FormName.{FormName}
 use Rattle.site_types.specs.declared.forms.FormName.TheVariants as form
 use Rattle.site_types.specs.declared.request.Request.{Request}
-use Rattle.site_types.proofs.FormLemmas.{is_table, ordered, fields_read, same_value, are_allowed, are_words, value_ordered, none_bad}
-use Rattle.site_types.proofs.OptionLemmas.{guarded}
+use Rattle.site_types.proofs.FormLemmas.{is_table, ordered, fields_read, are_allowed, are_words, value_ordered, none_bad}
+use Rattle.site_types.proofs.OptionLemmas.{guarded, same_value}
 use Rattle.site_types.proofs.WordLemmas.{split_line}
 
 no_error : {P : Type 0} (index : ℕ) (r : Request) → Err index ≡ Ok r → P

@@ -4,16 +4,18 @@ use Rattle.std.specs.Prelude.{IfOk}
 use Rattle.std.specs.Option.{option_and_then}
 use Rattle.std.specs.Fmt.{decimal}
 use Rattle.site_types.specs.CalendarTexts.{calendar_text}
+use Rattle.site_types.specs.Calendars.{calendar_of}
 use Rattle.site_types.specs.Forms.{Scheduling, are_marks, is_one, pair_of, policy_add_of, schedule_keys, schedule_made, schedule_of, schedule_texts, spelled, unit_add_of, unit_change_of}
-use Rattle.site_types.specs.Ids.{id_text}
+use Rattle.site_types.specs.Ids.{id_of, id_text}
 use Rattle.site_types.specs.Keys.{Given, name_of}
 use Rattle.site_types.specs.Lines.{IsFormed}
 use Rattle.site_types.specs.Requests.{IsReading, read_words}
 use Rattle.site_types.specs.Numbers.{number_between}
-use Rattle.site_types.specs.Paths.{written}
-use Rattle.site_types.specs.Values.{kind_text, type_text, start_of, start_text, yes_or_no, yes_or_no_text}
+use Rattle.site_types.specs.Paths.{path_of, written}
+use Rattle.site_types.specs.Values.{kind_of, kind_text, type_of, type_text, start_of, start_text, yes_or_no, yes_or_no_text}
 use Rattle.site_types.specs.WindowTexts.{windows_text}
-use Rattle.site_types.specs.ZoneWords.{rule_of, offset_of}
+use Rattle.site_types.specs.WindowWords.{windows_of}
+use Rattle.site_types.specs.ZoneWords.{rule_of, offset_of, offset_text}
 use Rattle.site_types.specs.declared.calendar.CalendarItem.{CalendarItem}
 use Rattle.site_types.specs.declared.forms.FormName.{FormName}
 use Rattle.site_types.specs.declared.forms.FormName.TheVariants as form
@@ -23,9 +25,10 @@ use Rattle.site_types.specs.declared.request.Request.TheVariants as request
 use Rattle.site_types.specs.declared.request.WordFault.{WordFault}
 use Rattle.site_types.specs.declared.schedule.PolicyType.{PolicyType}
 use Rattle.site_types.specs.declared.window.Windows.{Windows}
-use Rattle.site_types.proofs.FormLemmas.{same_value}
-use Rattle.site_types.proofs.KeptLemmas.{name_kept, number_kept, id_kept, kind_kept, type_kept, yes_or_no_kept, start_kept, path_kept, rule_kept, offset_kept, windows_kept, calendar_kept}
+use Rattle.site_types.proofs.KeptLemmas.{kept, as_it_stands, name_kept, number_kept}
+use Rattle.site_types.proofs.OptionLemmas.{same_value}
 use Rattle.site_types.proofs.RereadLemmas.{Fit, Spells, texts_of, words_reread}
+use Rattle.site_types.proofs.SpellingLemmas.{id_spelled, kind_spelled, type_spelled, yes_or_no_spelled, start_spelled, path_spelled, rule_spelled, offset_spelled, windows_spelled, calendar_spelled}
 
 -- what a request is written as
 abbrev Written : Type 0
@@ -78,7 +81,7 @@ module _ (makes : Scheduling) (name : FormName) (so : (policy schedule : List �
 
   schedule_spells : (v : Given) (r : Request) → Fit schedule_keys v → schedule_made makes v ≡ Some r → spelled r ≡ (name, texts_of schedule_keys v)
   schedule_spells v r fit is = scheduled _ _ _ _ _ _ r is ∙ (λ i.
-      (name, name_kept _ (fit (codes "policy")) i ∷ name_kept _ (fit (codes "schedule")) i ∷ kind_kept _ (fit (codes "kind")) i ∷ number_kept 1 3153600000 _ (fit (codes "frequency")) i ∷ calendar_kept _ (fit (codes "calendar")) i ∷ windows_kept _ (fit (codes "windows")) i ∷ []))
+      (name, name_kept _ (fit (codes "policy")) i ∷ name_kept _ (fit (codes "schedule")) i ∷ kept kind_of kind_text kind_spelled _ (fit (codes "kind")) i ∷ number_kept 1 3153600000 _ (fit (codes "frequency")) i ∷ kept calendar_of calendar_text calendar_spelled _ (fit (codes "calendar")) i ∷ kept windows_of windows_text windows_spelled _ (fit (codes "windows")) i ∷ []))
 
 -- One fact a row.
 spells : (name : FormName) → Spells name
@@ -88,28 +91,28 @@ spells form.UnitChange v r fit is = unit_change_spelled _ _ _ _ _ r is ∙ (λ i
     (form.UnitChange, name_kept _ (fit (codes "name")) i ∷ number_kept 1 1125899906842624 _ (fit (codes "capacity")) i ∷ number_kept 1 16777216 _ (fit (codes "slots")) i ∷ number_kept 1 100 _ (fit (codes "high")) i ∷ number_kept 0 99 _ (fit (codes "low")) i ∷ []))
 spells form.ClientAdd v r fit is = one_spelled request.ClientAdd (λ name. (form.ClientAdd, name ∷ [])) (λ name. refl) _ r is ∙ (λ i. (form.ClientAdd, name_kept _ (fit (codes "name")) i ∷ []))
 spells form.ClientRemove v r fit is = one_spelled request.ClientRemove (λ name. (form.ClientRemove, name ∷ [])) (λ name. refl) _ r is ∙ (λ i. (form.ClientRemove, name_kept _ (fit (codes "name")) i ∷ []))
-spells form.PolicyAdd v r fit is = policy_add_spelled _ _ _ r is ∙ (λ i. (form.PolicyAdd, name_kept _ (fit (codes "policy")) i ∷ type_kept _ (fit (codes "type")) i ∷ name_kept _ (fit (codes "lifecycle")) i ∷ []))
+spells form.PolicyAdd v r fit is = policy_add_spelled _ _ _ r is ∙ (λ i. (form.PolicyAdd, name_kept _ (fit (codes "policy")) i ∷ kept type_of type_text type_spelled _ (fit (codes "type")) i ∷ name_kept _ (fit (codes "lifecycle")) i ∷ []))
 spells form.PolicyChange v r fit is =
     one_spelled (λ policy. request.PolicyChange policy (option_and_then yes_or_no (v (codes "active"))) (option_and_then name_of (v (codes "lifecycle"))))
     (λ policy. (form.PolicyChange, policy ∷ option_map yes_or_no_text (option_and_then yes_or_no (v (codes "active"))) ∷ option_and_then name_of (v (codes "lifecycle")) ∷ [])) (λ policy. refl) _ r is
-    ∙ (λ i. (form.PolicyChange, name_kept _ (fit (codes "policy")) i ∷ yes_or_no_kept _ (fit (codes "active")) i ∷ name_kept _ (fit (codes "lifecycle")) i ∷ []))
+    ∙ (λ i. (form.PolicyChange, name_kept _ (fit (codes "policy")) i ∷ kept yes_or_no yes_or_no_text yes_or_no_spelled _ (fit (codes "active")) i ∷ name_kept _ (fit (codes "lifecycle")) i ∷ []))
 spells form.PolicyRemove v r fit is = one_spelled request.PolicyRemove (λ policy. (form.PolicyRemove, policy ∷ [])) (λ policy. refl) _ r is ∙ (λ i. (form.PolicyRemove, name_kept _ (fit (codes "policy")) i ∷ []))
 spells form.PolicyClientAdd v r fit is = two_spelled request.PolicyClientAdd (λ policy client. (form.PolicyClientAdd, policy ∷ client ∷ [])) (λ policy client. refl) _ _ r is ∙ (λ i. (form.PolicyClientAdd, name_kept _ (fit (codes "policy")) i ∷ name_kept _ (fit (codes "client")) i ∷ []))
 spells form.PolicyClientRemove v r fit is = two_spelled request.PolicyClientRemove (λ policy client. (form.PolicyClientRemove, policy ∷ client ∷ [])) (λ policy client. refl) _ _ r is ∙ (λ i. (form.PolicyClientRemove, name_kept _ (fit (codes "policy")) i ∷ name_kept _ (fit (codes "client")) i ∷ []))
-spells form.PolicySelect v r fit is = two_spelled request.PolicySelect (λ policy path. (form.PolicySelect, policy ∷ option_map written path ∷ [])) (λ policy path. refl) _ _ r is ∙ (λ i. (form.PolicySelect, name_kept _ (fit (codes "policy")) i ∷ path_kept _ (fit (codes "path")) i ∷ []))
-spells form.PolicyUnselect v r fit is = two_spelled request.PolicyUnselect (λ policy path. (form.PolicyUnselect, policy ∷ option_map written path ∷ [])) (λ policy path. refl) _ _ r is ∙ (λ i. (form.PolicyUnselect, name_kept _ (fit (codes "policy")) i ∷ path_kept _ (fit (codes "path")) i ∷ []))
+spells form.PolicySelect v r fit is = two_spelled request.PolicySelect (λ policy path. (form.PolicySelect, policy ∷ option_map written path ∷ [])) (λ policy path. refl) _ _ r is ∙ (λ i. (form.PolicySelect, name_kept _ (fit (codes "policy")) i ∷ kept path_of written path_spelled _ (fit (codes "path")) i ∷ []))
+spells form.PolicyUnselect v r fit is = two_spelled request.PolicyUnselect (λ policy path. (form.PolicyUnselect, policy ∷ option_map written path ∷ [])) (λ policy path. refl) _ _ r is ∙ (λ i. (form.PolicyUnselect, name_kept _ (fit (codes "policy")) i ∷ kept path_of written path_spelled _ (fit (codes "path")) i ∷ []))
 spells form.ScheduleAdd v r fit is = schedule_spells request.ScheduleAdd form.ScheduleAdd (λ policy schedule kind frequency calendar windows. refl) v r fit is
 spells form.ScheduleChange v r fit is = schedule_spells request.ScheduleChange form.ScheduleChange (λ policy schedule kind frequency calendar windows. refl) v r fit is
 spells form.ScheduleRemove v r fit is = two_spelled request.ScheduleRemove (λ policy schedule. (form.ScheduleRemove, policy ∷ schedule ∷ [])) (λ policy schedule. refl) _ _ r is ∙ (λ i. (form.ScheduleRemove, name_kept _ (fit (codes "policy")) i ∷ name_kept _ (fit (codes "schedule")) i ∷ []))
-spells form.ZoneSet v r fit is = ap spelled (sym (chosen (is_one (option_and_then rule_of (v (codes "rule"))) (option_and_then offset_of (v (codes "offset")))) (request.ZoneSet _ _) r is)) ∙ (λ i. (form.ZoneSet, rule_kept _ (fit (codes "rule")) i ∷ offset_kept _ (fit (codes "offset")) i ∷ []))
+spells form.ZoneSet v r fit is = ap spelled (sym (chosen (is_one (option_and_then rule_of (v (codes "rule"))) (option_and_then offset_of (v (codes "offset")))) (request.ZoneSet _ _) r is)) ∙ (λ i. (form.ZoneSet, as_it_stands rule_of rule_spelled _ (fit (codes "rule")) i ∷ kept offset_of offset_text offset_spelled _ (fit (codes "offset")) i ∷ []))
 spells form.Load v r fit is = ap spelled (sym (same_value request.Load r is))
 spells form.Backup v r fit is =
     one_spelled (λ client. request.Backup client (option_and_then name_of (v (codes "policy"))) (option_and_then name_of (v (codes "schedule"))) (option_and_then start_of (v (codes "start"))))
     (λ client. (form.Backup, client ∷ option_and_then name_of (v (codes "policy")) ∷ option_and_then name_of (v (codes "schedule")) ∷ option_map start_text (option_and_then start_of (v (codes "start"))) ∷ [])) (λ client. refl) _ r is
-    ∙ (λ i. (form.Backup, name_kept _ (fit (codes "client")) i ∷ name_kept _ (fit (codes "policy")) i ∷ name_kept _ (fit (codes "schedule")) i ∷ start_kept _ (fit (codes "start")) i ∷ []))
+    ∙ (λ i. (form.Backup, name_kept _ (fit (codes "client")) i ∷ name_kept _ (fit (codes "policy")) i ∷ name_kept _ (fit (codes "schedule")) i ∷ kept start_of start_text start_spelled _ (fit (codes "start")) i ∷ []))
 spells form.Restore v r fit is =
     one_spelled (λ id. request.Restore id (option_and_then (number_between 1 32) (v (codes "copy")))) (λ id. (form.Restore, option_map id_text id ∷ option_map decimal (option_and_then (number_between 1 32) (v (codes "copy"))) ∷ [])) (λ id. refl) _ r is
-    ∙ (λ i. (form.Restore, id_kept _ (fit (codes "id")) i ∷ number_kept 1 32 _ (fit (codes "copy")) i ∷ []))
+    ∙ (λ i. (form.Restore, kept id_of id_text id_spelled _ (fit (codes "id")) i ∷ number_kept 1 32 _ (fit (codes "copy")) i ∷ []))
 
 pub reread : (words : List (List ℕ)) (r : Request) → read_words words ≡ Ok r → IsFormed r
 reread words r is = words_reread spells words r is

@@ -1,8 +1,9 @@
 // Reading calendars.
 ghost use Rattle.std.specs.Prelude.{◌≡◌, IfOk};
-ghost use Rattle.site_types.specs.Calendars.{week_of, weekday_item_of, month_day_of, date_of, day_of, calendar_item_of, calendar_of};
+ghost use Rattle.site_types.specs.Calendars.{week_of, weekday_item_of, month_day_of, date_of, day_of, calendar_of};
 
 use crate::digits::read_digits;
+use crate::joined_word::{JoinedItem, read_joined};
 use crate::weekday::read_weekday;
 use crate::{CalendarItem, Day, ListOf, NoMemory, read_number};
 use std::alloc::Global;
@@ -13,24 +14,15 @@ const MOST_ITEMS: usize = 64;
 pub fn read_calendar(alloc: Global, text: &[u8]) -> Result<Option<ListOf<CalendarItem>>, NoMemory>
     ensures { IfOk result (λ o. o ≡ calendar_of text.now) }
 {
-    let mut items = Vec::new(alloc);
-    for part in text.split(|byte| *byte == b'+') {
-        if items.len() == MOST_ITEMS {
-            return Ok(None);
-        }
-        let Some(item) = CalendarItem::read(part) else {
-            return Ok(None);
-        };
-        items.push(item)?;
-    }
-    Ok(Some(ListOf::from_vec(items)))
+    read_joined(alloc, text, MOST_ITEMS)
 }
 
-impl CalendarItem {
-    /// What one item says. None exactly where the text spells none.
-    pub fn read(text: &[u8]) -> Option<CalendarItem>
-        ensures { result ≡ calendar_item_of text.now }
-    {
+impl JoinedItem for CalendarItem {
+    ghost use Rattle.site_types.specs.Calendars.{calendar_item_of};
+
+    ghost spelled = { calendar_item_of };
+
+    fn read(text: &[u8]) -> Option<CalendarItem> {
         match text {
             [b'd', date @ ..] => Some(CalendarItem::Date(read_day(date)?)),
             [b'x', date @ ..] => Some(CalendarItem::Exclude(read_day(date)?)),

@@ -56,6 +56,9 @@ pub struct Form {
 }
 
 macro_rules! key {
+    ($name:literal, $least:literal, $greatest:literal) => {
+        key!($name, Grammar::Number { least: $least, greatest: $greatest })
+    };
     ($name:literal, $grammar:expr) => {
         FormKey {
             name: $name,
@@ -74,53 +77,17 @@ pub const SCHEDULE: FormKey = key!(b"schedule", Grammar::Name);
 
 pub const LIFECYCLE: FormKey = key!(b"lifecycle", Grammar::Name);
 
-pub const CAPACITY: FormKey = key!(
-    b"capacity",
-    Grammar::Number {
-        least: 1,
-        greatest: 1_125_899_906_842_624
-    }
-);
+pub const CAPACITY: FormKey = key!(b"capacity", 1, 1_125_899_906_842_624);
 
-pub const SEGMENT: FormKey = key!(
-    b"segment",
-    Grammar::Number {
-        least: 16,
-        greatest: 131_072
-    }
-);
+pub const SEGMENT: FormKey = key!(b"segment", 16, 131_072);
 
-pub const FRAGMENT: FormKey = key!(
-    b"fragment",
-    Grammar::Number {
-        least: 1,
-        greatest: 1_048_576
-    }
-);
+pub const FRAGMENT: FormKey = key!(b"fragment", 1, 1_048_576);
 
-pub const SLOTS: FormKey = key!(
-    b"slots",
-    Grammar::Number {
-        least: 1,
-        greatest: 16_777_216
-    }
-);
+pub const SLOTS: FormKey = key!(b"slots", 1, 16_777_216);
 
-pub const HIGH: FormKey = key!(
-    b"high",
-    Grammar::Number {
-        least: 1,
-        greatest: 100
-    }
-);
+pub const HIGH: FormKey = key!(b"high", 1, 100);
 
-pub const LOW: FormKey = key!(
-    b"low",
-    Grammar::Number {
-        least: 0,
-        greatest: 99
-    }
-);
+pub const LOW: FormKey = key!(b"low", 0, 99);
 
 pub const TYPE: FormKey = key!(b"type", Grammar::PolicyType);
 
@@ -130,13 +97,7 @@ pub const PATH: FormKey = key!(b"path", Grammar::Path);
 
 pub const KIND: FormKey = key!(b"kind", Grammar::Kind);
 
-pub const FREQUENCY: FormKey = key!(
-    b"frequency",
-    Grammar::Number {
-        least: 1,
-        greatest: 3_153_600_000
-    }
-);
+pub const FREQUENCY: FormKey = key!(b"frequency", 1, 3_153_600_000);
 
 pub const CALENDAR: FormKey = key!(b"calendar", Grammar::Calendar);
 
@@ -150,13 +111,7 @@ pub const START: FormKey = key!(b"start", Grammar::Start);
 
 pub const ID: FormKey = key!(b"id", Grammar::Id);
 
-pub const COPY: FormKey = key!(
-    b"copy",
-    Grammar::Number {
-        least: 1,
-        greatest: 32
-    }
-);
+pub const COPY: FormKey = key!(b"copy", 1, 32);
 
 macro_rules! form {
     ($name:ident, $class:ident, $takes_payload:literal, $first:literal, $second:expr, $keys:expr) => {
@@ -171,153 +126,59 @@ macro_rules! form {
     };
 }
 
-pub const UNIT_ADD: Form = form!(
-    UnitAdd,
-    SiteChange,
-    false,
-    b"unit",
-    Some(b"add"),
-    [NAME, CAPACITY, SEGMENT, FRAGMENT, SLOTS, HIGH, LOW]
-);
+// A change of the site has two words, and takes no payload.
+macro_rules! change {
+    ($name:ident, $first:literal, $second:literal, $keys:expr) => {
+        form!($name, SiteChange, false, $first, Some($second), $keys)
+    };
+}
 
-pub const UNIT_CHANGE: Form = form!(
-    UnitChange,
-    SiteChange,
-    false,
-    b"unit",
-    Some(b"change"),
-    [NAME, CAPACITY, SLOTS, HIGH, LOW]
-);
+pub const UNIT_ADD: Form =
+    change! { UnitAdd, b"unit", b"add", [NAME, CAPACITY, SEGMENT, FRAGMENT, SLOTS, HIGH, LOW] };
 
-pub const CLIENT_ADD: Form = form!(
-    ClientAdd,
-    SiteChange,
-    false,
-    b"client",
-    Some(b"add"),
-    [NAME]
-);
+pub const UNIT_CHANGE: Form =
+    change! { UnitChange, b"unit", b"change", [NAME, CAPACITY, SLOTS, HIGH, LOW] };
 
-pub const CLIENT_REMOVE: Form = form!(
-    ClientRemove,
-    SiteChange,
-    false,
-    b"client",
-    Some(b"remove"),
-    [NAME]
-);
+pub const CLIENT_ADD: Form = change! { ClientAdd, b"client", b"add", [NAME] };
 
-pub const POLICY_ADD: Form = form!(
-    PolicyAdd,
-    SiteChange,
-    false,
-    b"bppolicynew",
-    Some(b"add"),
-    [POLICY, TYPE, LIFECYCLE]
-);
+pub const CLIENT_REMOVE: Form = change! { ClientRemove, b"client", b"remove", [NAME] };
 
-pub const POLICY_CHANGE: Form = form!(
-    PolicyChange,
-    SiteChange,
-    false,
-    b"bppolicynew",
-    Some(b"change"),
-    [POLICY, ACTIVE, LIFECYCLE]
-);
+pub const POLICY_ADD: Form =
+    change! { PolicyAdd, b"bppolicynew", b"add", [POLICY, TYPE, LIFECYCLE] };
 
-pub const POLICY_REMOVE: Form = form!(
-    PolicyRemove,
-    SiteChange,
-    false,
-    b"bppolicynew",
-    Some(b"remove"),
-    [POLICY]
-);
+pub const POLICY_CHANGE: Form =
+    change! { PolicyChange, b"bppolicynew", b"change", [POLICY, ACTIVE, LIFECYCLE] };
 
-pub const POLICY_CLIENT_ADD: Form = form!(
-    PolicyClientAdd,
-    SiteChange,
-    false,
-    b"bppolicynew",
-    Some(b"client-add"),
-    [POLICY, CLIENT]
-);
+pub const POLICY_REMOVE: Form = change! { PolicyRemove, b"bppolicynew", b"remove", [POLICY] };
 
-pub const POLICY_CLIENT_REMOVE: Form = form!(
-    PolicyClientRemove,
-    SiteChange,
-    false,
-    b"bppolicynew",
-    Some(b"client-remove"),
-    [POLICY, CLIENT]
-);
+pub const POLICY_CLIENT_ADD: Form =
+    change! { PolicyClientAdd, b"bppolicynew", b"client-add", [POLICY, CLIENT] };
 
-pub const POLICY_SELECT: Form = form!(
-    PolicySelect,
-    SiteChange,
-    false,
-    b"bppolicynew",
-    Some(b"select"),
-    [POLICY, PATH]
-);
+pub const POLICY_CLIENT_REMOVE: Form =
+    change! { PolicyClientRemove, b"bppolicynew", b"client-remove", [POLICY, CLIENT] };
 
-pub const POLICY_UNSELECT: Form = form!(
-    PolicyUnselect,
-    SiteChange,
-    false,
-    b"bppolicynew",
-    Some(b"unselect"),
-    [POLICY, PATH]
-);
+pub const POLICY_SELECT: Form = change! { PolicySelect, b"bppolicynew", b"select", [POLICY, PATH] };
 
-pub const SCHEDULE_ADD: Form = form!(
-    ScheduleAdd,
-    SiteChange,
-    false,
-    b"bpplsched",
-    Some(b"add"),
-    [POLICY, SCHEDULE, KIND, FREQUENCY, CALENDAR, WINDOWS]
-);
+pub const POLICY_UNSELECT: Form =
+    change! { PolicyUnselect, b"bppolicynew", b"unselect", [POLICY, PATH] };
 
-pub const SCHEDULE_CHANGE: Form = form!(
-    ScheduleChange,
-    SiteChange,
-    false,
-    b"bpplsched",
-    Some(b"change"),
-    [POLICY, SCHEDULE, KIND, FREQUENCY, CALENDAR, WINDOWS]
-);
+pub const SCHEDULE_ADD: Form =
+    change! { ScheduleAdd, b"bpplsched", b"add", [POLICY, SCHEDULE, KIND, FREQUENCY, CALENDAR, WINDOWS] };
 
-pub const SCHEDULE_REMOVE: Form = form!(
-    ScheduleRemove,
-    SiteChange,
-    false,
-    b"bpplsched",
-    Some(b"remove"),
-    [POLICY, SCHEDULE]
-);
+pub const SCHEDULE_CHANGE: Form =
+    change! { ScheduleChange, b"bpplsched", b"change", [POLICY, SCHEDULE, KIND, FREQUENCY, CALENDAR, WINDOWS] };
 
-pub const ZONE_SET: Form = form!(
-    ZoneSet,
-    SiteChange,
-    false,
-    b"bpzone",
-    Some(b"set"),
-    [RULE, OFFSET]
-);
+pub const SCHEDULE_REMOVE: Form =
+    change! { ScheduleRemove, b"bpplsched", b"remove", [POLICY, SCHEDULE] };
 
-pub const LOAD: Form = form!(Load, SiteFile, true, b"bpload", None, []);
+pub const ZONE_SET: Form = change! { ZoneSet, b"bpzone", b"set", [RULE, OFFSET] };
 
-pub const BACKUP: Form = form!(
-    Backup,
-    Backup,
-    true,
-    b"bpbackup",
-    None,
-    [CLIENT, POLICY, SCHEDULE, START]
-);
+pub const LOAD: Form = form! { Load, SiteFile, true, b"bpload", None, [] };
 
-pub const RESTORE: Form = form!(Restore, Restore, false, b"bprestore", None, [ID, COPY]);
+pub const BACKUP: Form =
+    form! { Backup, Backup, true, b"bpbackup", None, [CLIENT, POLICY, SCHEDULE, START] };
+
+pub const RESTORE: Form = form! { Restore, Restore, false, b"bprestore", None, [ID, COPY] };
 
 static FORMS: [Form; 18] = [
     UNIT_ADD,

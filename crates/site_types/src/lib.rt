@@ -15,6 +15,7 @@ mod forms;
 mod id;
 mod image;
 mod joined_text;
+mod joined_word;
 mod keys;
 mod lifecycle;
 mod limit;

@@ -8,39 +8,33 @@ use crate::{Kind, PolicyType, Start};
 pub fn read_kind(text: &[u8]) -> Option<Kind>
     ensures { result ≡ kind_of text.now }
 {
-    if text == b"full".as_slice() {
-        return Some(Kind::Full);
+    match text {
+        b"full" => Some(Kind::Full),
+        b"diff" => Some(Kind::Differential),
+        b"cumul" => Some(Kind::Cumulative),
+        _ => None,
     }
-    if text == b"diff".as_slice() {
-        return Some(Kind::Differential);
-    }
-    if text == b"cumul".as_slice() {
-        return Some(Kind::Cumulative);
-    }
-    None
 }
 
 /// The type that a text names: `raw`. Policies of files come later.
 pub fn read_policy_type(text: &[u8]) -> Option<PolicyType>
     ensures { result ≡ type_of text.now }
 {
-    if text == b"raw".as_slice() {
-        return Some(PolicyType::Raw);
+    match text {
+        b"raw" => Some(PolicyType::Raw),
+        _ => None,
     }
-    None
 }
 
 /// `yes` or `no`.
 pub fn read_yes_or_no(text: &[u8]) -> Option<bool>
     ensures { result ≡ yes_or_no text.now }
 {
-    if text == b"yes".as_slice() {
-        return Some(true);
+    match text {
+        b"yes" => Some(true),
+        b"no" => Some(false),
+        _ => None,
     }
-    if text == b"no".as_slice() {
-        return Some(false);
-    }
-    None
 }
 
 /// Who starts a backup: `manual` or `scheduled`.

@@ -1,9 +1,9 @@
 // Reading windows.
 ghost use Rattle.std.specs.Prelude.{◌≡◌, IfOk};
-ghost use Rattle.site_types.specs.Joined.{joined_of};
-ghost use Rattle.site_types.specs.WindowWords.{second_at, second_of, window_at, window_of, windows_of};
+ghost use Rattle.site_types.specs.WindowWords.{second_at, second_of, window_at, windows_of};
 
 use crate::digits::read_digits;
+use crate::joined_word::{JoinedItem, read_joined};
 use crate::weekday::read_weekday;
 use crate::{ListOf, NoMemory, Window, Windows, read_number};
 use std::alloc::Global;
@@ -21,33 +21,16 @@ pub fn read_windows(alloc: Global, text: &[u8]) -> Result<Option<Windows>, NoMem
     if text == b"none".as_slice() {
         return Ok(Some(Windows::Listed(ListOf::new(alloc))));
     }
-    match read_list(alloc, text)? {
-        Some(windows) => Ok(Some(Windows::Listed(windows))),
-        None => Ok(None),
-    }
+    Ok(read_joined(alloc, text, MOST_WINDOWS)?.map(Windows::Listed))
 }
 
-fn read_list(alloc: Global, text: &[u8]) -> Result<Option<ListOf<Window>>, NoMemory>
-    ensures { IfOk result (λ o. o ≡ joined_of window_of 28 text.now) }
-{
-    let mut windows = Vec::new(alloc);
-    for part in text.split(|byte| *byte == b'+') {
-        if windows.len() == MOST_WINDOWS {
-            return Ok(None);
-        }
-        let Some(window) = Window::read(part) else {
-            return Ok(None);
-        };
-        windows.push(window)?;
-    }
-    Ok(Some(ListOf::from_vec(windows)))
-}
+impl JoinedItem for Window {
+    ghost use Rattle.site_types.specs.WindowWords.{window_of};
 
-impl Window {
-    /// A window, as `fri/20:00:00/36000`. None exactly where the text spells none.
-    pub fn read(text: &[u8]) -> Option<Window>
-        ensures { result ≡ window_of text.now }
-    {
+    ghost spelled = { window_of };
+
+    // A window, as `fri/20:00:00/36000`.
+    fn read(text: &[u8]) -> Option<Window> {
         if text.len() < 13 || text[3] != b'/' || text[12] != b'/' {
             return None;
         }
