@@ -97,6 +97,8 @@ class Build(StandInTest):
         self.whole(it)
         self.assertEqual(self.proved()[before:], ["right"])
         self.assertIn("left is proved already", it.stderr)
+        for name in ("left", "right"):
+            self.assertIn("logic=proved", (self.program.parent / f"log/{name}.log").read_text())
 
     def test_a_crate_that_fails_stops_the_build(self):
         self.slow("alone", 1000)
