@@ -14,7 +14,7 @@ pages = man/man1/bpdesk.1 bash-completion/completions/bpdesk zsh/site-functions/
 .PHONY: build install uninstall test gate clean
 
 build:
-	@tools/build
+	@tools/build && echo "$(program) is built"
 
 install:
 	@test -x $(program) || { echo "there is no $(program): run make first" >&2; exit 1; }
