@@ -49,6 +49,14 @@ class Document(DeskTest):
                     if "rm -r" in commands:
                         self.assertEqual(left, set(), "the commands leave files behind")
 
+    def test_each_status_has_what_a_script_does(self):
+        def statuses(heading):
+            part = DOCUMENT.read_text().split(f"\n## {heading}\n", 1)[1].split("\n## ", 1)[0]
+            return {number for cell in re.findall(r"^\| ([\d, ]+) \|", part, re.MULTILINE) for number in cell.split(", ")}
+
+        self.assertGreater(len(statuses("Statuses")), 15)
+        self.assertEqual(statuses("Statuses") - statuses("What a script does with a status"), set())
+
     def test_readme_begins_with_its_two_commands(self):
         text = README.read_text()
         self.assertLess(len(text.split()), 1000)
