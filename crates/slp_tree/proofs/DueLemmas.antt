@@ -1,5 +1,5 @@
 -- Going through the operations of images one by one, and their order.
-use Rattle.std.proofs.Common.{◌≡◌, ◌<◌, ◌≤◌, ◌+◌, ◌-◌, ℕ, suc, List, [], ◌∷◌, ◌++◌, map, length, take, drop, get_or, append_assoc, append-nil, Bool, true, false, cond, refl, sym, ◌∙◌, ap, arith}
+use Rattle.std.proofs.Common.{◌≡◌, ◌<◌, ◌+◌, ◌-◌, ℕ, suc, List, [], ◌∷◌, ◌++◌, map, length, append_assoc, Bool, true, false, cond, refl, sym, ◌∙◌, ap, arith}
 use Rattle.std.specs.Prelude.{filter, sum_by, IsPermutation}
 use Rattle.std.specs.List.{range_with_len}
 use Rattle.std.specs.Cmp.{IsTotalOrder}
@@ -9,15 +9,12 @@ use Rattle.std.specs.Ordering.{nat_cmp, ordering_then, is_lt}
 use Rattle.std.specs.declared.cmp.Ordering.{Ordering}
 use Rattle.std.specs.declared.cmp.Ordering.TheVariants.{Less, Equal, Greater}
 use Rattle.std.proofs.lemmas.Cmp.{nat_cmp_total, nat_list_cmp_total, then_total, on_total, back_total}
-use Rattle.std.proofs.lemmas.List.{drop_more, drop_all}
-use Rattle.std.proofs.lemmas.List.Sums.{sum_by-cons}
 use Rattle.std.proofs.lemmas.Map.Lookups.{exact_unsigned, exact_bytes}
 use Rattle.site_types.specs.declared.image.ImageRecord.{ImageRecord}
 use Rattle.slp_tree.specs.declared.due.Ranked.{Ranked}
 use Rattle.slp_tree.specs.Trees.{Version}
-use Rattle.slp_tree.specs.Lifecycles.{Lifecycle, version_named}
 use Rattle.slp_tree.specs.Sorting.{in_order}
-use Rattle.slp_tree.specs.Due.{is_due, ranked, due_of, due_of_all, due_order}
+use Rattle.slp_tree.specs.Due.{is_due, ranked, due_order}
 use Rattle.slp_tree.proofs.SortingLemmas.{sorted_is}
 
 -- The order is total, and tells all due operations apart.
@@ -67,12 +64,6 @@ range_here i n lt = ap (range_with_len i) (one_more i n lt)
     one_more : (k m : ℕ) → k < m → m - k ≡ suc (m - (k + 1))
     one_more k m below = omega arith
 
-range_past : (i n : ℕ) → n ≤ i → range_with_len i (n - i) ≡ []
-range_past i n past = ap (range_with_len i) (none i n past)
-  where
-    none : (k m : ℕ) → m ≤ k → m - k ≡ 0
-    none k m long = omega arith
-
 module _ (image : ImageRecord) (version : Version) (open_windows : List Bool) (i : ℕ) (before whole : List Ranked) where
   pub due_pushed : (after : List Ranked) → i < length version.operations → is_due image version.operations open_windows i ≡ true → before ++ due_from image version open_windows i ≡ whole → after ≡ before ++ ranked image version.priority i ∷ [] → after ++ due_from image version open_windows (i + 1) ≡ whole
   due_pushed after lt due all after_is =
@@ -95,33 +86,7 @@ module _ (image : ImageRecord) (version : Version) (open_windows : List Bool) (i
       ∙ (λ j. map (ranked image version.priority) (cond (other j) (i ∷ rest) rest)) in
       ap (λ (l : List Ranked). before ++ l) (sym here) ∙ all
 
-  pub due_done : length version.operations ≤ i → before ++ due_from image version open_windows i ≡ whole → before ≡ whole
-  due_done past all =
-      sym (append-nil before)
-      ∙ ap (λ (l : List ℕ). before ++ map (ranked image version.priority) (filter (is_due image version.operations open_windows) l)) (sym (range_past i (length version.operations) past))
-      ∙ all
-
--- The images, from one on.
+-- The states of images.
 
 abbrev pub count_states : List ImageRecord → ℕ
 count_states images = sum_by (λ (image : ImageRecord). length image.states) images
-
-module _ (images : List ImageRecord) (i : ℕ) (image : ImageRecord) (lt : i < length images) (is : image ≡ get_or images i image) where
-  images_here : drop i images ≡ image ∷ drop (i + 1) images
-  images_here = drop_more images i image lt ∙ ap (λ (m : ImageRecord). m ∷ drop (i + 1) images) (sym is)
-
-  pub states_here : count_states (drop i images) ≡ length image.states + count_states (drop (i + 1) images)
-  states_here = ap count_states images_here ∙ sum_by-cons (λ (m : ImageRecord). length m.states) image (drop (i + 1) images)
-
-  pub image_pushed : (lifecycles : List Lifecycle) (later : List Bool) (before after whole : List Ranked) → before ++ due_of_all (drop i images) lifecycles later ≡ whole → after ≡ before ++ due_of image (take (length image.states) later) (version_named image.lifecycle image.version lifecycles) → after ++ due_of_all (drop (i + 1) images) lifecycles (drop (length image.states) later) ≡ whole
-  image_pushed lifecycles later before after whole all after_is =
-      let here : List Ranked = due_of image (take (length image.states) later) (version_named image.lifecycle image.version lifecycles) in
-      let rest : List Ranked = due_of_all (drop (i + 1) images) lifecycles (drop (length image.states) later) in
-      ap (λ (l : List Ranked). l ++ rest) after_is
-      ∙ append_assoc before here rest
-      ∙ ap (λ (l : List ImageRecord). before ++ due_of_all l lifecycles later) (sym images_here)
-      ∙ all
-
-pub images_done : (images : List ImageRecord) (i : ℕ) (lifecycles : List Lifecycle) (later : List Bool) (before whole : List Ranked) → length images ≤ i → before ++ due_of_all (drop i images) lifecycles later ≡ whole → before ≡ whole
-images_done images i lifecycles later before whole past all =
-    sym (append-nil before) ∙ ap (λ (l : List ImageRecord). before ++ due_of_all l lifecycles later) (sym (drop_all i images past)) ∙ all

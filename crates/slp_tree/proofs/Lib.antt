@@ -1,4 +1,5 @@
 pub mod TreeLemmas
+pub mod ListLemmas
 pub mod LifecycleLemmas
 pub mod SortingLemmas
 pub mod DueLemmas

@@ -1,4 +1,5 @@
 pub mod Faults
+pub mod Lists
 pub mod Places
 pub mod Trees
 pub mod Lifecycles

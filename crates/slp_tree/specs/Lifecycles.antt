@@ -1,23 +1,18 @@
 -- Lifecycles by name, each with its versions 1, 2, and so on.
-use Rattle.std.specs.Prelude.{◌≡◌, ℕ, ◌-◌, ◌==◌, if◌then◌else◌, List, [], ◌∷◌, ◌++◌, length, Option, Some, None, slice_get, find}
-use Rattle.std.specs.List.{AllPairs}
-use Rattle.std.specs.Option.{option_map}
-use Rattle.std.specs.Str.{bytes_eq}
-use Rattle.std.specs.Cmp.Lexicographic.{slice_cmp}
-use Rattle.std.specs.Ordering.{match_ordering, nat_cmp}
-use Rattle.std.specs.declared.cmp.Ordering.TheVariants.{Less}
+use Rattle.std.specs.Prelude.{◌≡◌, ℕ, ◌+◌, ◌-◌, ◌==◌, if◌then◌else◌, List, [], ◌∷◌, ◌++◌, length, Option, Some, None, Result, slice_get, unwrap_or, IfOk, OnOk, OnErr}
+use Rattle.std.specs.Option.{option_map, option_map_or}
+use Rattle.slp_tree.specs.Lists.{named, put}
 use Rattle.slp_tree.specs.Trees.{Version}
 
 pub record Lifecycle : Type 0 where
   pub name : List ℕ
   pub versions : List Version
 
--- each name stands once, and they rise
-abbrev pub AreByName : List Lifecycle → Type 0
-AreByName lifecycles = AllPairs (λ a b. slice_cmp nat_cmp a.name b.name ≡ Less) lifecycles
+abbrev pub lifecycle_name : Lifecycle → List ℕ
+lifecycle_name l = l.name
 
 abbrev pub lifecycle_named : List ℕ → List Lifecycle → Option Lifecycle
-lifecycle_named name lifecycles = find (λ l. bytes_eq l.name name) lifecycles
+lifecycle_named name lifecycles = named lifecycle_name name lifecycles
 
 abbrev pub version_in : ℕ → Option Lifecycle → Option Version
 version_in number None = None
@@ -31,10 +26,18 @@ version_named name number lifecycles = version_in number (lifecycle_named name l
 abbrev pub latest_named : List ℕ → List Lifecycle → Option ℕ
 latest_named name lifecycles = option_map (λ l. length l.versions) (lifecycle_named name lifecycles)
 
--- a lifecycle gets a further version; one that isn't there is added at its place by name
+-- a lifecycle with one version more, which is its first where it isn't there
+abbrev pub with_further : List ℕ → Version → Option Lifecycle → Lifecycle
+with_further name version found = record { name = name; versions = option_map_or (λ l. l.versions) found [] ++ version ∷ [] }
+
 abbrev pub add_version : List ℕ → Version → List Lifecycle → List Lifecycle
-add_version name version [] = record { name = name; versions = version ∷ [] } ∷ []
-add_version name version (l ∷ ls) = match_ordering (slice_cmp nat_cmp name l.name)
-    (record { name = name; versions = version ∷ [] } ∷ l ∷ ls)
-    (record { name = l.name; versions = l.versions ++ version ∷ [] } ∷ ls)
-    (l ∷ add_version name version ls)
+add_version name version lifecycles = put lifecycle_name (with_further name version (lifecycle_named name lifecycles)) lifecycles
+
+-- a further version was added, and its number answered, under which it is found, or nothing was
+pub record IsAdded {E : Type 0} (name : List ℕ) (version : Version) (old new : List Lifecycle) (result : Result ℕ E) : Type 0 where
+  pub added : OnOk result (new ≡ add_version name version old)
+  pub number : IfOk result (λ number. number ≡ unwrap_or (latest_named name old) 0 + 1)
+  pub unchanged : OnErr result (new ≡ old)
+  pub latest : IfOk result (λ number. latest_named name new ≡ Some number)
+  pub found : IfOk result (λ number. version_named name number new ≡ Some version)
+  pub others : IfOk result (λ number. (other : List ℕ) (k : ℕ) → ¬ ((other ≡ name) × (k ≡ number)) → version_named other k new ≡ version_named other k old)

@@ -1,6 +1,6 @@
 -- Lists of operations: the rules by which they are a tree, children, and operations that are still needed.
 use Rattle.std.specs.Prelude.{ℕ, Bool, true, false, not, ◌&&◌, ◌==◌, nat_lt, nat_le, if◌then◌else◌, List, [], ◌∷◌, drop, length, map, filter, find, Option, None, is_none, slice_get}
-use Rattle.std.specs.List.{list_any, enumerate_from}
+use Rattle.std.specs.List.{list_any, enumerate_from, range_with_len}
 use Rattle.std.specs.Option.{option_map, option_map_or}
 use Rattle.std.specs.Str.{bytes_eq}
 use Rattle.site_types.specs.declared.lifecycle.Operation.{Operation}
@@ -76,9 +76,13 @@ pub record Version : Type 0 where
   pub priority : ℕ
   pub operations : List Operation
 
+-- the operation with this index reads the copy of that one
+abbrev pub is_child : List Operation → ℕ → ℕ → Bool
+is_child operations source index = option_map_or (reads source) (slice_get operations index) false
+
 -- the indices of the operations that read this one's copy
 abbrev pub children : List Operation → ℕ → List ℕ
-children operations source = map (λ e. e.0) (filter (λ e. reads source e.1) (indexed operations))
+children operations source = filter (is_child operations source) (range_with_len 0 (length operations))
 
 abbrev pub is_waiting : OpState → Bool
 is_waiting Waiting = true

@@ -1,8 +1,10 @@
-//! Storage lifecycles: trees of operations that images follow, their versions, and the operations that are due.
+//! Storage lifecycles: trees of operations that images follow, their versions, and the operations that are due; and lists by
+//! name, in which lifecycles and what else a site has stand.
 #![tactic(auto)]
 
 mod due;
 mod lifecycles;
+pub mod named;
 mod rules;
 mod slp;
 

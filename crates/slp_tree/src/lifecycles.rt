@@ -1,14 +1,13 @@
 ghost use Rattle.std.specs.Prelude.{◌≡◌, ◌≤◌, ◌<◌, ◌+◌, ◌^◌, ℕ, [], ◌∷◌, ◌++◌, length, slice_get, map, insert, slice_set, IfOk, IfSome, OnOk, OnErr, Option, Some, None, List, unwrap_or};
 ghost use Rattle.std.specs.Option.{option_copied, option_map, ForSome};
-ghost use Rattle.std.specs.Cmp.Lexicographic.{slice_cmp};
-ghost use Rattle.std.specs.Ordering.{nat_cmp};
-ghost use Rattle.slp_tree.specs.Places.{StandsAt, LacksAt, IsPlace, IsAdded};
-ghost use Rattle.slp_tree.specs.Lifecycles.{Lifecycle as LifecycleValue, AreByName, version_in, version_named, latest_named, add_version};
+ghost use Rattle.slp_tree.specs.Lists.{AreByName};
+ghost use Rattle.slp_tree.specs.Places.{StandsAt, LacksAt};
+ghost use Rattle.slp_tree.specs.Lifecycles.{Lifecycle as LifecycleValue, IsAdded, lifecycle_name, version_in, version_named, latest_named, add_version};
 
+use crate::named::{Named, find, place};
 use crate::{NoMemory, Slp};
 use site_types::{Copied, Name, copy_all};
 use std::alloc::Global;
-use std::cmp::Ordering;
 use std::marker::Model;
 
 // A lifecycle, by its name, with its versions from the first on.
@@ -29,6 +28,16 @@ impl Model for Lifecycle {
     ghost invariant = { λ l. (1 ≤ length l.versions.items) × (length l.versions.items < 2 ^ 16) };
 }
 
+impl Named for Lifecycle {
+    ghost use Rattle.slp_tree.specs.Lifecycles.{lifecycle_name};
+
+    ghost name_of = { lifecycle_name };
+
+    fn name(&self) -> &Name {
+        &self.name
+    }
+}
+
 impl Copied for Lifecycle {
     fn copy(&self, alloc: Global) -> Result<Lifecycle, NoMemory> {
         Ok(Lifecycle {
@@ -45,18 +54,6 @@ impl Lifecycle {
         let mut versions = Vec::new(alloc);
         versions.push(first)?;
         Ok(Lifecycle { name, versions })
-    }
-
-    fn name(&self) -> &Name
-        ensures { result.now ≡ self.now.name }
-    {
-        &self.name
-    }
-
-    fn compare(&self, name: &[u8]) -> Ordering
-        ensures { result ≡ slice_cmp nat_cmp self.now.name name.now }
-    {
-        self.name.bytes().cmp(name)
     }
 
     // The number of the latest version.
@@ -94,13 +91,14 @@ pub struct Lifecycles {
 
 impl Model for Lifecycles {
     ghost use Rattle.std.specs.Prelude.{◌≡◌, ◌<◌, ◌^◌, List, length};
-    ghost use Rattle.slp_tree.specs.Lifecycles.{Lifecycle as LifecycleValue, AreByName};
+    ghost use Rattle.slp_tree.specs.Lists.{AreByName};
+    ghost use Rattle.slp_tree.specs.Lifecycles.{Lifecycle as LifecycleValue, lifecycle_name};
 
     ghost Value = { List LifecycleValue };
 
     ghost view = { λ l. l.listed.items };
 
-    ghost invariant = { λ l. AreByName l.listed.items × (length l.listed.items < 2 ^ 32) };
+    ghost invariant = { λ l. AreByName lifecycle_name l.listed.items × (length l.listed.items < 2 ^ 32) };
 }
 
 impl Copied for Lifecycles {
@@ -124,7 +122,7 @@ impl Lifecycles {
     /// The number of names.
     pub fn names(&self) -> u32
         ensures count { result ≡ length self.now }
-        ensures by_name { AreByName self.now }
+        ensures by_name { AreByName lifecycle_name self.now }
     {
         self.listed.len() as u32
     }
@@ -140,20 +138,14 @@ impl Lifecycles {
     pub fn latest(&self, name: &Name) -> Option<u16>
         ensures { result ≡ latest_named name.now self.now }
     {
-        match self.place(name.bytes()) {
-            Ok(at) => Some(self.listed[at].latest()),
-            Err(_) => None,
-        }
+        Some(find(&self.listed, name)?.latest())
     }
 
     /// The version of a name with this number, and None exactly where the name has no such version.
     pub fn find(&self, name: &Name, version: u16) -> Option<&Slp>
         ensures { option_copied result ≡ version_named name.now version self.now }
     {
-        match self.place(name.bytes()) {
-            Ok(at) => self.listed[at].version(version),
-            Err(_) => None,
-        }
+        find(&self.listed, name)?.version(version)
     }
 
     /// Adds a name's next version, which is its first where the name isn't there, and answers its number. Every other
@@ -171,24 +163,15 @@ impl Lifecycles {
         ensures found { IfOk result (λ number. version_named name.now number self.new ≡ Some slp) }
         ensures others { IfOk result (λ number. (other : List ℕ) (version : ℕ) → ¬ ((other ≡ name.now) × (version ≡ number)) → version_named other version self.new ≡ version_named other version self.old) }
     {
-        match self.place(name.bytes()) {
+        match place(&self.listed, name) {
             Ok(at) => self.add_at(at, name, slp),
             Err(at) => self.insert_at(alloc, at, name, slp),
         }
     }
 
-    // Where a name stands, or would stand.
-    fn place(&self, name: &[u8]) -> Result<usize, usize>
-        ensures place { IsPlace self.now name.now result }
-        ensures by_name { AreByName self.now }
-    {
-        self.listed
-            .binary_search_by(|lifecycle| lifecycle.compare(name))
-    }
-
     // A further version of the name that stands there.
     fn add_at(&mut self, at: usize, name: &Name, slp: Slp) -> Result<u16, NoMemory>
-        requires place { StandsAt self.old name.now at }
+        requires place { StandsAt lifecycle_name self.old name.now at }
         requires versions { ForSome (latest_named name.now self.old) (λ latest. latest < 65535) }
         ensures { IsAdded name.now slp self.old self.new result }
     {
@@ -203,7 +186,7 @@ impl Lifecycles {
         name: &Name,
         slp: Slp,
     ) -> Result<u16, NoMemory>
-        requires place { LacksAt self.old name.now at }
+        requires place { LacksAt lifecycle_name self.old name.now at }
         requires names { length self.old < 4294967295 }
         ensures { IsAdded name.now slp self.old self.new result }
     {

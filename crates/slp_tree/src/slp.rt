@@ -1,6 +1,6 @@
 ghost use Rattle.std.specs.Prelude.{◌≡◌, ◌≤◌, ◌<◌, ℕ, true, length, slice_get, map, IfOk, IfErr, Option, Some, None};
 ghost use Rattle.std.specs.Option.{option_copied, option_map};
-ghost use Rattle.slp_tree.specs.Trees.{broken_rule, is_tree, children, needed, waits, completed};
+ghost use Rattle.slp_tree.specs.Trees.{broken_rule, is_tree, is_child, children, needed, waits, completed};
 ghost use Rattle.slp_tree.specs.Faults.{IsBroken};
 
 use crate::NoMemory;
@@ -119,13 +119,9 @@ impl Slp {
     pub fn children(&self, alloc: Global, op: u8) -> Result<Vec<u8>, NoMemory>
         ensures { IfOk result (λ v. v.items ≡ children self.now.operations op) }
     {
-        let mut children = Vec::new(alloc);
-        for (index, operation) in self.operations.iter().enumerate() {
-            if reads(operation, usize::from(op)) {
-                children.push(index as u8)?;
-            }
-        }
-        Ok(children)
+        (0..self.count())
+            .filter(|index| self.reads(*index, op))
+            .collect(alloc)
     }
 
     /// The first waiting child of an operation that is complete, and None exactly where there is none: then the operation
@@ -137,12 +133,19 @@ impl Slp {
         if !completed(states, usize::from(op)) {
             return None;
         }
-        for (index, operation) in self.operations.iter().enumerate() {
-            if reads(operation, usize::from(op)) && waits(states, index) {
-                return Some(index as u8);
-            }
+        (0..self.count())
+            .filter(|index| self.reads(*index, op))
+            .find(|index| waits(states, usize::from(*index)))
+    }
+
+    // The operation with this index reads the copy of that one.
+    fn reads(&self, index: u8, source: u8) -> bool
+        ensures { result ≡ is_child self.now.operations source index }
+    {
+        match self.operation(index) {
+            Some(operation) => reads(operation, usize::from(source)),
+            None => false,
         }
-        None
     }
 }
 

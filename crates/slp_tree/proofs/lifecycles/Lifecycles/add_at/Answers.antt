@@ -6,8 +6,12 @@ use Rattle.slp_tree.proofs.lifecycles.Lifecycles.add_at.Goals as goal
 
 pub add-requires : goal.add-requires
 add-requires c =
-    let few = subst (λ (o : Option ℕ). ForSome o (λ latest. latest < 65535)) (latest_read c.args.self.now c.self.inside.listed.items c.args.name.now c.args.at c.index_mut.result.now c.self.view_is c.self.invariant.0 c.requires.place c.index_mut.ensures.value) c.requires.versions in
+    let at = rw (← c.self.view_is) at c.requires.place in
+    let known = rw (← c.self.view_is) at c.requires.versions in
+    let few = subst (λ (o : Option ℕ). ForSome o (λ latest. latest < 65535)) (latest_read c.self.inside.listed.items c.args.name.now c.args.at c.index_mut.result.now c.self.invariant.0 at c.index_mut.ensures.value) known in
     few (length c.index_mut.result.now.versions) refl
 
 pub returns : goal.returns
-returns c = added_in_place c.args.self.now c.self.inside.listed.items c.args.name.now c.args.slp c.args.at c.index_mut.result.now c.add.new.self c.add.result c.self.view_is c.self.invariant.0 c.requires.place c.index_mut.ensures.value c.add.ensures.added c.add.ensures.unchanged
+returns c =
+    let at = rw (← c.self.view_is) at c.requires.place in
+    rw (← c.self.view_is) (added_in_place c.self.inside.listed.items c.args.name.now c.args.slp c.args.at c.index_mut.result.now c.add.new.self c.add.result c.self.invariant.0 at c.index_mut.ensures.value c.add.ensures.added c.add.ensures.unchanged)

@@ -1,39 +1,14 @@
-use Rattle.std.proofs.Common.{◌≡◌, ◌<◌, ◌∙◌, sym, ap, length, true, false, arith}
-use Rattle.std.specs.Prelude.{find}
-use Rattle.slp_tree.specs.Trees.{reads, completed, waits}
-use Rattle.slp_tree.proofs.TreeLemmas.{found, not_waiting, no_child_here, no_child_left}
+use Rattle.std.proofs.Common.{◌≡◌, ◌∙◌, length, true, sym, rules, tests, arith}
+use Rattle.std.proofs.lemmas.Iterator.{YieldsList-from_range}
+use Rattle.std.proofs.lemmas.Iterator.Adapters.{option_map_id}
+use Rattle.std.proofs.lemmas.Iterator.Consumers.{YieldsList-from_filter}
+use Rattle.std.proofs.lemmas.Iterator.Search.{find_from_yields_List}
+use Rattle.slp_tree.specs.Trees.{completed, is_child, waits}
 use Rattle.slp_tree.proofs.slp.Slp.needed.Goals as goal
-use Rattle.slp_tree.proofs.slp.Slp.needed.Goals.{else-reads-via-then-reads+else-waits, else-reads-via-else-reads}
-
-pub loop-index-preserved : goal.loop-index-preserved
-loop-index-preserved c =
-    let operations = c.deref-operation-items.result.now in
-    let i = c.loop-index.index in
-    let o = c.operation-item.result in
-    let here : i < length operations = omega arith in
-    elim c.else-reads.branch [
-      | else-reads-via-then-reads+else-waits w ↦
-          let read : reads c.args.op o ≡ true = cc in
-          let other : waits c.args.states.now i ≡ false = cc in
-          sym (not_waiting operations c.args.states.now c.args.op i o here c.operation-item.is read other) ∙ c.loop-index.invariant
-      | else-reads-via-else-reads w ↦
-          let read : reads c.args.op o ≡ false = cc in
-          sym (ap (find (waits c.args.states.now)) (no_child_here operations c.args.op i o here c.operation-item.is read)) ∙ c.loop-index.invariant
-    ]
-
-pub returns-then-waits : goal.returns-then-waits
-returns-then-waits c =
-    let operations = c.deref-operation-items.result.now in
-    let i = c.loop-index.index in
-    let o = c.operation-item.result in
-    let here : i < length operations = omega arith in
-    let complete : completed c.args.states.now c.args.op ≡ true = cc in
-    let read : reads c.args.op o ≡ true = cc in
-    let waiting : waits c.args.states.now i ≡ true = cc in
-    rw complete (sym (found operations c.args.states.now c.args.op i o here c.operation-item.is read waiting) ∙ c.loop-index.invariant)
 
 pub returns : goal.returns
 returns c =
-    let operations = c.deref-operation-items.result.now in
     let complete : completed c.args.states.now c.args.op ≡ true = cc in
-    rw complete (sym (ap (find (waits c.args.states.now)) (no_child_left operations c.args.op c.loop-index.index (omega arith))) ∙ c.loop-index.invariant)
+    rw complete (sym (option_map_id c.find.result) ∙ find_from_yields_List (waits c.args.states.now) _ _ _ c.find.ensures.ran
+    (YieldsList-from_filter _ (is_child c.args.self.now.operations c.args.op) (YieldsList-from_range 0 c.count.result (length c.args.self.now.operations) c.filter.ensures.source (omega arith)) c.filter.ensures.closure (λ x b q k. search (rules, tests)))
+    (λ x b q k. search (rules, tests)))
