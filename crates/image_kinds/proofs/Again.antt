@@ -1,13 +1,6 @@
 -- What is spelled at the front is read, and where a field breaks its rule nothing is read.
-use Rattle.std.proofs.Common.{◌≡◌, ℕ, ◌^◌, ◌<◌, true, false, cond, ltb, leb, eqb, List, [], ◌∷◌, ◌++◌, length, take, drop, Some, None, Result, Ok, Err, refl, sym, ap, subst, ◌∙◌, append_assoc, arith, inl, inr}
-use Rattle.std.specs.Prelude.{◌&&◌}
-use Rattle.std.specs.Int.{Width, w16, w64, byte_len, from_be_bytes, to_be_bytes}
-use Rattle.std.proofs.lemmas.Bool.{lt-ltb, leb-true, eqb-true, ne_eqb, and_parts, or_parts, or_cases, cond-true, cond-false}
+use Rattle.image_kinds.proofs.Common.{◌≡◌, ℕ, ◌^◌, ◌<◌, true, false, cond, ltb, leb, eqb, List, ◌∷◌, ◌++◌, length, take, drop, Some, None, Result, Ok, Err, sym, ap, subst, ◌∙◌, append_assoc, arith, inl, inr, ◌&&◌, Width, w16, w64, byte_len, from_be_bytes, to_be_bytes, lt-ltb, leb-true, eqb-true, ne_eqb, and_parts, or_parts, or_cases, cond-true, cond-false, Entry, Item, Taken, Kept, Format}
 use Rattle.image_kinds.specs.Paths.{is_path_length, follows}
-use Rattle.image_kinds.specs.declared.entry.Entry.{Entry}
-use Rattle.image_kinds.specs.declared.entry.Item.{Item}
-use Rattle.image_kinds.specs.declared.entry.Item.TheVariants.{Taken, Kept}
-use Rattle.image_kinds.specs.declared.format.Format.{Format}
 use Rattle.image_kinds.specs.Streams.{path_of, spelled_path, spelled_content, spelled_item, IsEntry, IsItem, keeps, names_path, is_tag, PathBreaks, path_length_ends, wrong_path_length, path_ends, wrong_path, FileEnds, time_ends, content_length_ends, content_ends, Breaks, no_tag, wrong_tag, behind_end, in_path, in_file}
 use Rattle.image_kinds.specs.Fields.{◌>>=◌, whole, number_at, text_at, path_length_at, path_bytes_at, path_at, content_at, entry_at, end_at, taken_at, kept_at, item_at}
 use Rattle.image_kinds.proofs.Reading.{wide16, wide64, number_again, text_again}
@@ -109,9 +102,6 @@ item_again f last (Taken e) more ok fits = goes_on (entry_at last ((spelled_path
 item_again f last (Kept path) more ok keeping =
     cond-true (keeps f) (kept_at last (spelled_path path ++ more)) (Err (length (2 ∷ (spelled_path path ++ more)))) keeping
     ∙ goes_on (path_at last (spelled_path path ++ more)) (λ p. Ok (Some (Kept p.0), p.1)) (path, more) (path_again last path more ok)
-
-pub end_again : (f : Format) (last : List ℕ) → item_at f last (0 ∷ []) ≡ Ok (None, [])
-end_again f last = refl
 
 tagged_path_stops : (f : Format) (last : List ℕ) (tag : ℕ) (more : List ℕ) (left : ℕ) → names_path f tag ≡ true → path_at last more ≡ Err left → item_at f last (tag ∷ more) ≡ Err left
 tagged_path_stops f last tag more left names breaks =

@@ -1,18 +1,14 @@
 -- The law of chains: a chain of a client's backups gives the selected part of its last stream.
-use Rattle.std.proofs.Common.{◌≡◌, ℕ, ◌+◌, suc, true, List, [], ◌∷◌, ◌++◌, take, drop, Option, Some, None, refl, sym, ap, subst, ◌∙◌, arith, inl, inr}
-use Rattle.std.specs.Prelude.{◌⊎◌, map, nat_le, Contains, Result, Ok, Err, IfOk}
+use Rattle.image_kinds.proofs.Common.{◌≡◌, ℕ, ◌+◌, suc, true, List, [], ◌∷◌, ◌++◌, take, drop, Option, Some, None, refl, sym, ap, subst, ◌∙◌, arith, inl, inr, ◌⊎◌, map, nat_le, Contains, Result, Ok, Err, IfOk, cond-true, cond-false, cases_Bool, leb-false, Entry, Item, Taken, Kept}
 use Rattle.std.specs.List.{AllByRecursion, filter_map, cons_option}
-use Rattle.std.proofs.lemmas.Bool.{cond-true, cond-false, cases_Bool, leb-false}
 use Rattle.std.proofs.lemmas.List.{map-append, take-append-drop, drop_more}
 use Rattle.image_kinds.specs.Paths.{rise_behind}
-use Rattle.image_kinds.specs.declared.entry.Entry.{Entry}
-use Rattle.image_kinds.specs.declared.entry.Item.{Item}
-use Rattle.image_kinds.specs.declared.entry.Item.TheVariants.{Taken, Kept}
 use Rattle.image_kinds.specs.Streams.{path_of, taken_of, IsStream}
 use Rattle.image_kinds.specs.Images.{selected, item_made, made}
-use Rattle.image_kinds.specs.Trees.{taken_in, or_else, last_taken, last_image, tree, Backup, images_behind, chain_of, last_stream, KeepsOld, AllKeepOld, AreBackups}
+use Rattle.image_kinds.specs.Trees.{taken_in, last_taken, last_image, tree, Backup, images_behind, chain_of, last_stream, KeepsOld, AllKeepOld, AreBackups}
 use Rattle.image_kinds.proofs.Orders.{made_is, path_made}
 use Rattle.image_kinds.proofs.Trees.{paths, taken_here}
+use Rattle.std.specs.Option.{option_or}
 
 -- an element stands between those before it and those behind it
 stands : (xs : List Entry) (e : Entry) (at : Contains xs e) → xs ≡ take at.0 xs ++ e ∷ drop (at.0 + 1) xs
@@ -44,9 +40,6 @@ took_or_old selections before b e is old at =
       | inr sooner ↦ inr (takes ∙ ap taken_of (cond-false (nat_le before.moment e.time) (Taken e) (Kept e.path) sooner), old e at (leb-false before.moment e.time sooner))
     ]
 
-one_image : (path : List ℕ) (image : List Item) → last_taken path (image ∷ []) ≡ taken_in path image
-one_image path image = refl
-
 behind_finds : (selections : List (List ℕ)) (before b : Backup) (later : List Backup) → AllByRecursion (λ x. IsStream x.stream) (b ∷ later) → AllKeepOld selections before (b ∷ later) → (e : Entry) → Contains (selected selections (last_stream (b ∷ later))) e
     → Found selections before.stream (images_behind selections (Some before.moment) (b ∷ later)) e
 behind_finds selections before b [] streams old e at = took_or_old selections before b e streams.0 old.0 at
@@ -54,9 +47,9 @@ behind_finds selections before b (next ∷ later) streams old e at =
     let image = made selections (Some before.moment) b.stream in
     let rest = images_behind selections (Some b.moment) (next ∷ later) in
     elim (behind_finds selections b next later streams.1 old.1 e at) [
-      | inl found ↦ inl (ap (λ (o : Option Entry). or_else o (taken_in e.path image)) found)
+      | inl found ↦ inl (ap (λ (o : Option Entry). option_or o (taken_in e.path image)) found)
       | inr missing ↦
-          let none : last_taken e.path (image ∷ rest) ≡ taken_in e.path image = ap (λ (o : Option Entry). or_else o (taken_in e.path image)) missing.0 in
+          let none : last_taken e.path (image ∷ rest) ≡ taken_in e.path image = ap (λ (o : Option Entry). option_or o (taken_in e.path image)) missing.0 in
           elim (took_or_old selections before b e streams.0 old.0 missing.1) [
             | inl took ↦ inl (none ∙ took)
             | inr kept ↦ inr (none ∙ kept.0, kept.1)
@@ -68,8 +61,8 @@ chain_finds selections b [] are e at = made_takes selections None b.stream e are
 chain_finds selections b (next ∷ later) are e at =
     let image = made selections None b.stream in
     elim (behind_finds selections b next later are.streams.1 are.dated e at) [
-      | inl found ↦ ap (λ (o : Option Entry). or_else o (taken_in e.path image)) found
-      | inr missing ↦ ap (λ (o : Option Entry). or_else o (taken_in e.path image)) missing.0 ∙ made_takes selections None b.stream e are.streams.0 missing.1
+      | inl found ↦ ap (λ (o : Option Entry). option_or o (taken_in e.path image)) found
+      | inr missing ↦ ap (λ (o : Option Entry). option_or o (taken_in e.path image)) missing.0 ∙ made_takes selections None b.stream e are.streams.0 missing.1
     ]
 
 -- the last image is made of the last stream, with some reference

@@ -1,34 +1,31 @@
 -- The tree of a chain, image by image.
-use Rattle.std.proofs.Common.{◌≡◌, ℕ, ◌+◌, ◌-◌, ◌<◌, ◌≤◌, true, List, [], ◌∷◌, ◌++◌, length, get_or, take, Option, Some, None, refl, sym, ap, subst, ◌∙◌, append_assoc, arith, inl, inr}
-use Rattle.std.specs.Prelude.{map}
+use Rattle.image_kinds.proofs.Common.{◌≡◌, ℕ, ◌+◌, ◌-◌, ◌<◌, ◌≤◌, true, List, [], ◌∷◌, ◌++◌, length, get_or, take, Option, Some, None, refl, sym, ap, subst, ◌∙◌, append_assoc, arith, inl, inr, map, bytes_eq, and_parts, and_from, cond-true, cond-false, cases_Bool, Entry, Item, Taken, Kept}
 use Rattle.std.specs.List.{AllByRecursion, filter_map, cons_option}
-use Rattle.std.specs.Str.{bytes_eq}
-use Rattle.std.proofs.lemmas.Bool.{and_parts, and_from, cond-true, cond-false, cases_Bool}
 use Rattle.std.proofs.lemmas.List.{take_more, take_all}
 use Rattle.std.proofs.lemmas.Slice.Eq.{bytes_eq-Decides}
 use Rattle.image_kinds.specs.Paths.{is_path, is_before, follows, rise_behind}
-use Rattle.image_kinds.specs.declared.entry.Entry.{Entry}
-use Rattle.image_kinds.specs.declared.entry.Item.{Item}
-use Rattle.image_kinds.specs.declared.entry.Item.TheVariants.{Taken, Kept}
-use Rattle.image_kinds.specs.declared.format.Format.TheVariants as format
 use Rattle.image_kinds.specs.Streams.{path_of, taken_of, IsEntry, IsItem, IsStream, IsImage}
-use Rattle.image_kinds.specs.Trees.{taken_in, or_else, last_taken, last_image, entry_behind, tree}
+use Rattle.image_kinds.specs.Trees.{taken_in, last_taken, last_image, entry_behind, tree}
 use Rattle.image_kinds.proofs.Orders.{rise_sooner, Rises}
 use Rattle.image_kinds.proofs.Trees.{paths, taken_here}
+use Rattle.image_kinds.specs.declared.format.Format.TheVariants as format
+use Rattle.std.specs.Option.{option_or}
+use Rattle.std.proofs.lemmas.Option.{none-some, same_Some}
+use Rattle.std.proofs.lemmas.List.Elements.{filter_map-append}
 
-or_else_assoc : (a b c : Option Entry) → or_else (or_else a b) c ≡ or_else a (or_else b c)
-or_else_assoc None b c = refl
-or_else_assoc (Some x) b c = refl
+option_or_assoc : (a b c : Option Entry) → option_or (option_or a b) c ≡ option_or a (option_or b c)
+option_or_assoc None b c = refl
+option_or_assoc (Some x) b c = refl
 
 -- one more image at the end
-pub last_taken_more : (path : List ℕ) (images : List (List Item)) (image : List Item) → last_taken path (images ++ image ∷ []) ≡ or_else (taken_in path image) (last_taken path images)
-last_taken_more path [] image = or_else_nothing (taken_in path image)
+pub last_taken_more : (path : List ℕ) (images : List (List Item)) (image : List Item) → last_taken path (images ++ image ∷ []) ≡ option_or (taken_in path image) (last_taken path images)
+last_taken_more path [] image = option_or_nothing (taken_in path image)
   where
-    or_else_nothing : (o : Option Entry) → or_else None o ≡ or_else o None
-    or_else_nothing None = refl
-    or_else_nothing (Some x) = refl
+    option_or_nothing : (o : Option Entry) → option_or None o ≡ option_or o None
+    option_or_nothing None = refl
+    option_or_nothing (Some x) = refl
 last_taken_more path (first ∷ images) image =
-    ap (λ (o : Option Entry). or_else o (taken_in path first)) (last_taken_more path images image) ∙ or_else_assoc (taken_in path image) (last_taken path images) (taken_in path first)
+    ap (λ (o : Option Entry). option_or o (taken_in path first)) (last_taken_more path images image) ∙ option_or_assoc (taken_in path image) (last_taken path images) (taken_in path first)
 
 pub last_image_more : (images : List (List Item)) (image : List Item) → last_image (images ++ image ∷ []) ≡ image
 last_image_more [] image = refl
@@ -36,7 +33,7 @@ last_image_more (first ∷ []) image = refl
 last_image_more (first ∷ second ∷ images) image = last_image_more (second ∷ images) image
 
 -- what an item of the last image gives is what the chain does
-behind_chosen : (earlier : List (List Item)) (x : Item) → entry_behind earlier x ≡ or_else (taken_of x) (last_taken (path_of x) earlier)
+behind_chosen : (earlier : List (List Item)) (x : Item) → entry_behind earlier x ≡ option_or (taken_of x) (last_taken (path_of x) earlier)
 behind_chosen earlier (Taken e) = refl
 behind_chosen earlier (Kept path) = refl
 
@@ -47,7 +44,7 @@ behind_each earlier front (x ∷ rest) rising =
     let whole = front ++ x ∷ rest in
     let moved : front ++ x ∷ rest ≡ (front ++ x ∷ []) ++ rest = sym (append_assoc front (x ∷ []) rest) in
     let here : entry_behind earlier x ≡ last_taken (path_of x) (earlier ++ whole ∷ []) =
-    behind_chosen earlier x ∙ ap (λ (o : Option Entry). or_else o (last_taken (path_of x) earlier)) (sym (taken_here [] front x rest rising)) ∙ sym (last_taken_more (path_of x) earlier whole) in
+    behind_chosen earlier x ∙ ap (λ (o : Option Entry). option_or o (last_taken (path_of x) earlier)) (sym (taken_here [] front x rest rising)) ∙ sym (last_taken_more (path_of x) earlier whole) in
     let later = behind_each earlier (front ++ x ∷ []) rest (subst (λ (w : List Item). rise_behind [] (paths w) ≡ true) moved rising) in
     let there : filter_map (entry_behind earlier) rest ≡ filter_map (λ i. last_taken (path_of i) (earlier ++ whole ∷ [])) rest = subst (λ (w : List Item). filter_map (entry_behind earlier) rest ≡ filter_map (λ i. last_taken (path_of i) (earlier ++ w ∷ [])) rest) (sym moved) later in
     ap (λ (o : Option Entry). cons_option o (filter_map (entry_behind earlier) rest)) here ∙ ap (λ (es : List Entry). cons_option (last_taken (path_of x) (earlier ++ whole ∷ [])) es) there
@@ -57,33 +54,27 @@ tree_behind earlier last rising = behind_each earlier [] last rising ∙ ap (λ 
 
 -- ---- what is found of a path has that path
 
-some_is : (x y : Entry) → Some x ≡ Some y → x ≡ y
-some_is x y e = cc
-
-none_some : (x : Entry) → None ≡ Some x → ⊥
-none_some x e = absurd cc
-
 taken_path : (path : List ℕ) (items : List Item) (e : Entry) → taken_in path items ≡ Some e → e.path ≡ path
-taken_path path [] e is = absurd (none_some e is)
+taken_path path [] e is = absurd (none-some e is)
 taken_path path (Taken x ∷ items) e is =
     elim (cases_Bool (bytes_eq x.path path)) [
       | inl same ↦
-          let one : x ≡ e = some_is x e (sym (cond-true (bytes_eq x.path path) (Some x) (taken_in path items) same) ∙ is) in
+          let one : x ≡ e = same_Some x e (sym (cond-true (bytes_eq x.path path) (Some x) (taken_in path items) same) ∙ is) in
           ap (λ (z : Entry). z.path) (sym one) ∙ (bytes_eq-Decides x.path path).0 same
       | inr other ↦ taken_path path items e (sym (cond-false (bytes_eq x.path path) (Some x) (taken_in path items) other) ∙ is)
     ]
 taken_path path (Kept kept ∷ items) e is = taken_path path items e is
 
-either_path : (path : List ℕ) (a b : Option Entry) (e : Entry) → ((x : Entry) → a ≡ Some x → x.path ≡ path) → ((x : Entry) → b ≡ Some x → x.path ≡ path) → or_else a b ≡ Some e → e.path ≡ path
+either_path : (path : List ℕ) (a b : Option Entry) (e : Entry) → ((x : Entry) → a ≡ Some x → x.path ≡ path) → ((x : Entry) → b ≡ Some x → x.path ≡ path) → option_or a b ≡ Some e → e.path ≡ path
 either_path path None b e first second is = second e is
 either_path path (Some x) b e first second is = first e is
 
 pub last_taken_path : (path : List ℕ) (images : List (List Item)) (e : Entry) → last_taken path images ≡ Some e → e.path ≡ path
-last_taken_path path [] e is = absurd (none_some e is)
+last_taken_path path [] e is = absurd (none-some e is)
 last_taken_path path (image ∷ later) e is = either_path path (last_taken path later) (taken_in path image) e (λ x found. last_taken_path path later x found) (λ x found. taken_path path image x found) is
 
 behind_path : (earlier : List (List Item)) (i : Item) (e : Entry) → entry_behind earlier i ≡ Some e → e.path ≡ path_of i
-behind_path earlier (Taken x) e is = ap (λ (z : Entry). z.path) (sym (some_is x e is))
+behind_path earlier (Taken x) e is = ap (λ (z : Entry). z.path) (sym (same_Some x e is))
 behind_path earlier (Kept path) e is = last_taken_path path earlier e is
 
 -- ---- the tree rises
@@ -109,21 +100,13 @@ ends_in {A} xs x some is =
     sym (take_all (length xs - 1 + 1) xs (omega arith)) ∙ more ∙ ap (λ (y : A). take (length xs - 1) xs ++ y ∷ []) (sym is)
 
 -- the last of some images took the path, or else the others have it
-pub last_step : (path : List ℕ) (rest : List (List Item)) (image : List Item) (o : Option Entry) → 0 < length rest → image ≡ get_or rest (length rest - 1) image → taken_in path image ≡ o → last_taken path rest ≡ or_else o (last_taken path (take (length rest - 1) rest))
+pub last_step : (path : List ℕ) (rest : List (List Item)) (image : List Item) (o : Option Entry) → 0 < length rest → image ≡ get_or rest (length rest - 1) image → taken_in path image ≡ o → last_taken path rest ≡ option_or o (last_taken path (take (length rest - 1) rest))
 last_step path rest image o some is took =
-    ap (last_taken path) (ends_in rest image some is) ∙ last_taken_more path (take (length rest - 1) rest) image ∙ ap (λ (t : Option Entry). or_else t (last_taken path (take (length rest - 1) rest))) took
-
-cons_append : (o : Option Entry) (xs ys : List Entry) → cons_option o (xs ++ ys) ≡ cons_option o xs ++ ys
-cons_append None xs ys = refl
-cons_append (Some e) xs ys = refl
-
-filter_map_more : (h : Item → Option Entry) (xs : List Item) (x : Item) → filter_map h (xs ++ x ∷ []) ≡ filter_map h xs ++ cons_option (h x) []
-filter_map_more h [] x = refl
-filter_map_more h (y ∷ ys) x = ap (λ (es : List Entry). cons_option (h y) es) (filter_map_more h ys x) ∙ cons_append (h y) (filter_map h ys) (cons_option (h x) [])
+    ap (last_taken path) (ends_in rest image some is) ∙ last_taken_more path (take (length rest - 1) rest) image ∙ ap (λ (t : Option Entry). option_or t (last_taken path (take (length rest - 1) rest))) took
 
 pub merged_more : (h : Item → Option Entry) (items : List Item) (k : ℕ) (x : Item) (o : Option Entry) (entries : List Entry) → k < length items → x ≡ get_or items k x → h x ≡ o → entries ≡ filter_map h (take k items) → entries ++ cons_option o [] ≡ filter_map h (take (k + 1) items)
 merged_more h items k x o entries lt is gives so_far =
-    ap (λ (es : List Entry). es ++ cons_option o []) so_far ∙ ap (λ (g : Option Entry). filter_map h (take k items) ++ cons_option g []) (sym gives) ∙ sym (filter_map_more h (take k items) x)
+    ap (λ (es : List Entry). es ++ cons_option o []) so_far ∙ ap (λ (g : Option Entry). filter_map h (take k items) ++ cons_option g []) (sym gives) ∙ sym (filter_map-append h (take k items) (x ∷ []))
     ∙ ap (filter_map h) (ap (λ (y : Item). take k items ++ y ∷ []) is ∙ sym (take_more items k x lt))
 
 pub entries_more : (entries : List Entry) (e : Entry) → AllByRecursion (IsItem format.Stream) (map Taken entries) → IsEntry e → AllByRecursion (IsItem format.Stream) (map Taken (entries ++ e ∷ []))

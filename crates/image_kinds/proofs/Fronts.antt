@@ -1,20 +1,15 @@
 -- Bytes begin with one list of whole items, and break in one place.
-use Rattle.std.proofs.Common.{get_or, ◌≡◌, ℕ, suc, ◌-◌, ◌<◌, ◌≤◌, true, false, List, [], ◌∷◌, ◌++◌, length, Option, Some, None, Ok, Err, refl, sym, ap, subst, ◌∙◌, append_assoc, arith}
-use Rattle.std.specs.Prelude.{map, nat_eq}
+use Rattle.image_kinds.proofs.Common.{get_or, ◌≡◌, ℕ, suc, ◌-◌, ◌<◌, ◌≤◌, true, false, List, [], ◌∷◌, ◌++◌, length, Option, Some, None, Ok, Err, refl, sym, ap, subst, ◌∙◌, append_assoc, arith, map, nat_eq, and_parts, and_from, both_ways, length-append, append_cancel_left, flat_map_more, w16, to_be_bytes, Item, Taken, Kept, Format, Result}
 use Rattle.std.specs.List.{flat_map, AllByRecursion, starts_with}
-use Rattle.std.proofs.lemmas.Bool.{and_parts, and_from, both_ways}
 use Rattle.std.proofs.lemmas.Result.{MatchResult-at_ok, MatchResult-at_err}
-use Rattle.std.proofs.lemmas.List.{length-append, append_cancel_left, flat_map_more}
-use Rattle.std.specs.Int.{w16, to_be_bytes}
 use Rattle.image_kinds.specs.Paths.{follows, rise_behind}
-use Rattle.image_kinds.specs.declared.entry.Item.{Item}
-use Rattle.image_kinds.specs.declared.entry.Item.TheVariants.{Taken, Kept}
-use Rattle.image_kinds.specs.declared.format.Format.{Format}
-use Rattle.image_kinds.specs.declared.format.Format.TheVariants as format
 use Rattle.image_kinds.specs.Streams.{path_of, spelled_item, spelled, letters_of, IsItem, AreItems, last_behind, last_path, PathBreaks, path_length_ends, wrong_path_length, path_ends, wrong_path, Breaks, no_tag, wrong_tag, behind_end, in_path, in_file, IsBad, in_letters, behind_items}
-use Rattle.image_kinds.specs.Fields.{Read, item_at}
+use Rattle.image_kinds.specs.Fields.{Read, item_at, IsRead, FieldFault, Broken, NoMemory}
 use Rattle.image_kinds.proofs.Reading.{IsBytes, TakesItem, item_law}
 use Rattle.image_kinds.proofs.Again.{item_again, item_stops}
+use Rattle.image_kinds.specs.declared.format.Format.TheVariants as format
+use Rattle.std.proofs.lemmas.Option.{none-some, same_Some}
+use Rattle.image_kinds.specs.Decoding.{IsFault}
 
 -- no whole item stands behind the others
 pub data Halts (f : Format) (last rest : List ℕ) : Type 0 where
@@ -30,12 +25,6 @@ error left = Err left
 same_pair : (p q : Option Item × List ℕ) → item_read p.0 p.1 ≡ item_read q.0 q.1 → p ≡ q
 same_pair p q e = cc
 
-same_some : (x y : Item) → Some x ≡ Some y → x ≡ y
-same_some x y e = cc
-
-some_not_none : (x : Item) → None ≡ Some x → ⊥
-some_not_none x e = absurd cc
-
 read_no_error : (i : Option Item) (rest : List ℕ) (left : ℕ) → item_read i rest ≡ error left → ⊥
 read_no_error i rest left e = absurd cc
 
@@ -45,7 +34,7 @@ same_left n m e = cc
 halts : (f : Format) (last rest : List ℕ) (i : Item) (more : List ℕ) → Halts f last rest → item_at f last rest ≡ Ok (Some i, more) → ⊥
 halts f last rest i more (ended is) read =
     let none : item_at f last rest ≡ Ok (None, []) = ap (item_at f last) is in
-    some_not_none i (ap (λ (p : Option Item × List ℕ). p.0) (same_pair (None, []) (Some i, more) (sym none ∙ read)))
+    none-some i (ap (λ (p : Option Item × List ℕ). p.0) (same_pair (None, []) (Some i, more) (sym none ∙ read)))
 halts f last rest i more (broken left is) read = read_no_error (Some i) more left (sym read ∙ is)
 
 abbrev pub fronts : List Item → List ℕ
@@ -58,7 +47,7 @@ first_read f last x xs rest bytes rising each is =
 same_item : (x y : Item) (r s : List ℕ) → item_read (Some x) r ≡ item_read (Some y) s → (x ≡ y) × (r ≡ s)
 same_item x y r s e =
     let pairs = same_pair (Some x, r) (Some y, s) e in
-    (same_some x y (ap (λ (p : Option Item × List ℕ). p.0) pairs), ap (λ (p : Option Item × List ℕ). p.1) pairs)
+    (same_Some x y (ap (λ (p : Option Item × List ℕ). p.0) pairs), ap (λ (p : Option Item × List ℕ). p.1) pairs)
 
 pub record OneFront (xs ys : List Item) (r s : List ℕ) : Type 0 where
   pub items : xs ≡ ys
@@ -139,11 +128,6 @@ has_more f bytes items rest i after has read =
       rest_fits = took.0.rest_fits;
     }
 
-pub has_end : (f : Format) (bytes : List ℕ) (items : List Item) (rest after : List ℕ) → HasRead f bytes items rest → item_at f (last_path items) rest ≡ Ok (None, after) → bytes ≡ spelled f items
-has_end f bytes items rest after has read =
-    let took = MatchResult-at_ok (TakesItem f (last_path items) rest) (Breaks f (last_path items) rest) (None, after) read (item_law f (last_path items) rest has.rest_fits) in
-    has.parts ∙ ap (λ (w : List ℕ). letters_of f ++ (fronts items ++ w)) took
-
 -- an item takes at least its tag
 pub falls : (f : Format) (last rest : List ℕ) (i : Item) (after : List ℕ) → IsBytes rest → item_at f last rest ≡ Ok (Some i, after) → length after < length rest
 falls f last rest i after fits read =
@@ -180,6 +164,13 @@ has_fault f bytes items rest left has read =
     let few : left ≤ length rest = item_left f (last_path items) rest left breaks in
     let fits : left ≤ length bytes = omega (arith, ap (λ (w : List ℕ). length w) has.parts, length-append (letters_of f) (fronts items ++ rest), length-append (fronts items) rest, few) in
     (fits, behind_items items rest left has.items_are has.parts breaks (omega (arith, fits)))
+
+abbrev failed : {A : Type 0} → FieldFault → Result A FieldFault
+failed e = Err e
+
+pub item_fault : (f : Format) (bytes : List ℕ) (items : List Item) (rest : List ℕ) (e : FieldFault) (after : List ℕ) → HasRead f bytes items rest → IsRead (failed {A = Option Item} e) (item_at f (last_path items) rest) after → IsFault f bytes e
+item_fault f bytes items rest (Broken left) after has read = has_fault f bytes items rest left has read
+item_fault f bytes items rest NoMemory after has read = tt
 
 -- ---- the last item
 

@@ -1,11 +1,10 @@
+pub mod Common
 pub mod Reading
 pub mod Again
 pub mod Fronts
-pub mod Faults
 pub mod Values
 pub mod Writing
 pub mod Orders
 pub mod Trees
-pub mod Halving
 pub mod Chains
 pub mod ChainLaw

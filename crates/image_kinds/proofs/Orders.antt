@@ -1,18 +1,10 @@
 -- The order of paths, and lists of them that rise.
-use Rattle.std.proofs.Common.{◌≡◌, ℕ, Bool, true, false, cond, List, [], ◌∷◌, Option, Some, None, Ordering, refl, ap, ◌∙◌}
-use Rattle.std.specs.Prelude.{map, filter, nat_le}
-use Rattle.std.specs.List.{AllByRecursion}
-use Rattle.std.specs.Ordering.{nat_cmp, is_lt}
-use Rattle.std.specs.declared.cmp.Ordering.TheVariants.{Less, Equal, Greater}
+use Rattle.image_kinds.proofs.Common.{◌≡◌, ℕ, Bool, true, false, cond, List, [], ◌∷◌, Option, Some, None, Ordering, refl, ap, ◌∙◌, map, filter, nat_le, nat_cmp, is_lt, Less, Equal, Greater, AllByRecursion, and_parts, and_from, cond_both, nat_list_cmp_total, Entry, Taken, Kept}
 use Rattle.std.specs.Cmp.Lexicographic.{slice_cmp}
-use Rattle.std.proofs.lemmas.Bool.{and_parts, and_from, cond_both}
-use Rattle.std.proofs.lemmas.Cmp.{nat_list_cmp_total}
 use Rattle.image_kinds.specs.Paths.{is_path, is_before, follows, rise_behind}
-use Rattle.image_kinds.specs.declared.entry.Entry.{Entry}
-use Rattle.image_kinds.specs.declared.entry.Item.TheVariants.{Taken, Kept}
-use Rattle.image_kinds.specs.declared.format.Format.TheVariants as format
 use Rattle.image_kinds.specs.Streams.{path_of, IsEntry, IsItem, IsStream, IsImage}
 use Rattle.image_kinds.specs.Images.{is_selected, selected, item_made, made}
+use Rattle.image_kinds.specs.declared.format.Format.TheVariants as format
 
 pub less_is : (o : Ordering) → is_lt o ≡ true → o ≡ Less
 less_is Less e = refl

@@ -1,17 +1,11 @@
 -- What is read of a field is what is spelled at the front, and where nothing is read the field breaks its rule.
-use Rattle.std.proofs.Common.{◌≡◌, ℕ, suc, ◌+◌, ◌^◌, ◌<◌, ◌≤◌, Bool, true, false, cond, ltb, eqb, List, [], ◌∷◌, ◌++◌, length, get_or, take, drop, Option, Some, None, Result, Ok, Err, refl, sym, ap, subst, ◌∙◌, append_assoc, arith, inl, inr}
-use Rattle.std.specs.Prelude.{MatchResult, ◌&&◌}
-use Rattle.std.specs.Int.{Width, w16, w64, byte_len, from_be_bytes, to_be_bytes}
-use Rattle.std.proofs.lemmas.Bool.{cases_lt, ltb-false, ltb-true, le-ltb, eqb-true, and_parts, or_from}
+use Rattle.image_kinds.proofs.Common.{◌≡◌, ℕ, suc, ◌+◌, ◌^◌, ◌<◌, ◌≤◌, Bool, true, false, cond, ltb, eqb, List, [], ◌∷◌, ◌++◌, length, get_or, take, drop, Option, Some, None, Result, Ok, Err, refl, sym, ap, subst, ◌∙◌, append_assoc, arith, inl, inr, MatchResult, ◌&&◌, Width, w16, w64, byte_len, from_be_bytes, to_be_bytes, cases_lt, ltb-false, ltb-true, le-ltb, eqb-true, and_parts, or_from, Entry, Item, Taken, Kept, Format}
 use Rattle.std.proofs.lemmas.List.{take_at, drop_at, take-append-drop, length-append, length-take, get_or-drop, get_or-take, get_or_past}
 use Rattle.std.proofs.lemmas.Nat.{be_bytes_2, be_bytes_8, from_be_bytes-to_be_bytes_2, from_be_bytes-to_be_bytes_8}
 use Rattle.image_kinds.specs.Paths.{is_path_length, follows}
-use Rattle.image_kinds.specs.declared.entry.Entry.{Entry}
-use Rattle.image_kinds.specs.declared.entry.Item.{Item}
-use Rattle.image_kinds.specs.declared.entry.Item.TheVariants.{Taken, Kept}
-use Rattle.image_kinds.specs.declared.format.Format.{Format}
 use Rattle.image_kinds.specs.Streams.{path_of, spelled_path, spelled_content, spelled_item, IsEntry, IsItem, keeps, names_path, PathBreaks, path_length_ends, wrong_path_length, path_ends, wrong_path, FileEnds, time_ends, content_length_ends, content_ends, Breaks, no_tag, wrong_tag, behind_end, in_path, in_file}
 use Rattle.image_kinds.specs.Fields.{◌>>=◌, whole, number_at, text_at, path_length_at, path_bytes_at, path_at, content_at, entry_at, end_at, taken_at, kept_at, tagged_at, item_at}
+use Rattle.std.proofs.lemmas.Result.{MatchResult-weaker}
 
 abbrev pub IsBytes : List ℕ → Type 0
 IsBytes bytes = (i : ℕ) → get_or bytes i 0 < 256
@@ -53,10 +47,6 @@ choose_law false x y P E passes fails = fails refl
 field_law : {A : Type 0} (b : Bool) (x : A × List ℕ) (P : A × List ℕ → Type 0) (E : ℕ → Type 0) → (b ≡ true → E 0) → (b ≡ false → P x) → MatchResult (whole (cond b None (Some x))) P E
 field_law true x P E ends reads = ends refl
 field_law false x P E ends reads = reads refl
-
-weaker : {A : Type 0} (r : Result A ℕ) (P : A → Type 0) (E : ℕ → Type 0) (Q : A → Type 0) (F : ℕ → Type 0) → MatchResult r P E → ((x : A) → P x → Q x) → ((left : ℕ) → E left → F left) → MatchResult r Q F
-weaker (Ok x) P E Q F p on_ok on_err = on_ok x p
-weaker (Err left) P E Q F p on_ok on_err = on_err left p
 
 -- ---- numbers and texts
 
@@ -159,7 +149,7 @@ ContentEnds bytes left = ((time : ℕ) → time < 2 ^ 64 → FileEnds (to_be_byt
 
 content_text_law : (bytes : List ℕ) (n : ℕ × List ℕ) → TakesNumber w64 (2 ^ 64) bytes n → MatchResult (text_at n.0 n.1) (TakesContent bytes) (ContentEnds bytes)
 content_text_law bytes n took =
-    weaker (text_at n.0 n.1) (TakesText n.0 n.1) (EndsWithin n.0 n.1) (TakesContent bytes) (ContentEnds bytes) (text_law n.0 n.1 took.0.rest_fits)
+    MatchResult-weaker (text_at n.0 n.1) {P = TakesText n.0 n.1} {P' = TakesContent bytes} {Q = EndsWithin n.0 n.1} {Q' = ContentEnds bytes} (text_law n.0 n.1 took.0.rest_fits)
     (λ c text. (subst (λ (k : ℕ). Takes bytes (to_be_bytes w64 k ++ c.0) c.1) (sym text.1) (Takes-then bytes (to_be_bytes w64 n.0) n.1 c.0 c.1 took.0 text.0), omega (arith, text.1, took.1)))
     (λ left ends. (λ time small. content_ends time n.0 n.1 small took.1 (ap (λ (w : List ℕ). to_be_bytes w64 time ++ w) took.0.parts) ends.0, ends.1))
 

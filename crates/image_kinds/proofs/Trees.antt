@@ -1,18 +1,13 @@
 -- What an image took of a path, and what a chain did.
-use Rattle.std.proofs.Common.{◌≡◌, ℕ, true, false, cond, List, [], ◌∷◌, ◌++◌, Option, Some, None, refl, sym, ap, subst, ◌∙◌}
-use Rattle.std.specs.Prelude.{map}
-use Rattle.std.specs.Str.{bytes_eq}
-use Rattle.std.specs.Ordering.{is_lt}
-use Rattle.std.proofs.lemmas.Bool.{and_parts, and_from, cond-true, cond-false, false_from_ne_true, both_ways}
-use Rattle.std.proofs.lemmas.Cmp.{nat_list_cmp_total, tied_itself}
+use Rattle.image_kinds.proofs.Common.{◌≡◌, ℕ, true, false, cond, List, [], ◌∷◌, ◌++◌, Option, Some, None, refl, sym, ap, subst, ◌∙◌, map, bytes_eq, is_lt, and_parts, and_from, cond-true, cond-false, false_from_ne_true, both_ways, nat_list_cmp_total, tied_itself, Entry, Item, Taken, Kept, ◌-◌, ◌<◌, length, get_or, take, drop, Ordering, arith, nat_cmp, Less, Equal, Greater, take-append-drop, take_all}
 use Rattle.std.proofs.lemmas.Slice.Eq.{bytes_eq-Decides}
 use Rattle.image_kinds.specs.Paths.{is_path, is_before, follows, rise_behind}
-use Rattle.image_kinds.specs.declared.entry.Entry.{Entry}
-use Rattle.image_kinds.specs.declared.entry.Item.{Item}
-use Rattle.image_kinds.specs.declared.entry.Item.TheVariants.{Taken, Kept}
 use Rattle.image_kinds.specs.Streams.{path_of, taken_of}
 use Rattle.image_kinds.specs.Trees.{taken_in}
 use Rattle.image_kinds.proofs.Orders.{before_before, rise_sooner}
+use Rattle.std.specs.Cmp.Lexicographic.{slice_cmp}
+use Rattle.std.specs.Ordering.{ordering_reverse}
+use Rattle.std.specs.FinMap.{slice_cmp-IsAntisymmetric, nat_cmp-IsAntisymmetric}
 
 abbrev pub paths : List Item → List (List ℕ)
 paths items = map path_of items
@@ -26,9 +21,6 @@ apart a b before = false_from_ne_true (bytes_eq a b) (λ same. both_ways (is_bef
 
 apart_back : (a b : List ℕ) → is_before a b ≡ true → bytes_eq b a ≡ false
 apart_back a b before = false_from_ne_true (bytes_eq b a) (λ same. both_ways (is_before a b) (subst (λ (w : List ℕ). is_before a w ≡ false) (sym ((bytes_eq-Decides b a).0 same)) (before_itself a)) before)
-
-bytes_same : (a : List ℕ) → bytes_eq a a ≡ true
-bytes_same a = (bytes_eq-Decides a a).1 refl
 
 -- the first of items that rise follows the last path before them
 first_follows : (last : List ℕ) (x : Item) (xs : List Item) → rise_behind last (paths (x ∷ xs)) ≡ true → (is_before last (path_of x) ≡ true) × (rise_behind (path_of x) (paths xs) ≡ true)
@@ -89,9 +81,54 @@ taken_left path last front x rest rising before =
     front_none path front (x ∷ rest) (pass path x rest (apart_back path (path_of x) before) ∙ none_behind path rest (rise_sooner path (path_of x) (paths rest) before (rises_rest last front x rest rising)))
 
 taken_first : (x : Item) (rest : List Item) → rise_behind (path_of x) (paths rest) ≡ true → taken_in (path_of x) (x ∷ rest) ≡ taken_of x
-taken_first (Taken e) rest rising = cond-true (bytes_eq e.path e.path) (Some e) (taken_in e.path rest) (bytes_same e.path)
+taken_first (Taken e) rest rising = cond-true (bytes_eq e.path e.path) (Some e) (taken_in e.path rest) ((bytes_eq-Decides e.path e.path).1 refl)
 taken_first (Kept path) rest rising = none_behind path rest rising
 
 -- an item alone has its path
 pub taken_here : (last : List ℕ) (front : List Item) (x : Item) (rest : List Item) → rise_behind last (paths (front ++ x ∷ rest)) ≡ true → taken_in (path_of x) (front ++ x ∷ rest) ≡ taken_of x
 taken_here last front x rest rising = pass_front (path_of x) last front x rest rising (λ a sooner. sooner) ∙ taken_first x rest (rises_rest last front x rest rising)
+
+-- ---- a search of items that rise, half by half
+
+-- a part of items that rises and has all that they took of a path
+pub record Narrows (path : List ℕ) (items part : List Item) : Type 0 where
+  pub same : taken_in path part ≡ taken_in path items
+  pub last : List ℕ
+  pub rising : rise_behind last (paths part) ≡ true
+
+rises_so : (last : List ℕ) (part whole : List Item) → part ≡ whole → rise_behind last (paths part) ≡ true → rise_behind last (paths whole) ≡ true
+rises_so last part whole is rising = subst (λ (w : List Item). rise_behind last (paths w) ≡ true) is rising
+
+pub narrows_right : (path : List ℕ) (items part front : List Item) (x : Item) (back : List Item) → Narrows path items part → part ≡ front ++ x ∷ back → slice_cmp nat_cmp (path_of x) path ≡ Less → Narrows path items back
+narrows_right path items part front x back has parts less =
+    let rising = rises_so has.last part (front ++ x ∷ back) parts has.rising in
+    record {
+      same = sym (ap (taken_in path) parts ∙ taken_right path has.last front x back rising (ap is_lt less)) ∙ has.same;
+      last = path_of x;
+      rising = rises_rest has.last front x back rising;
+    }
+
+pub narrows_left : (path : List ℕ) (items part front : List Item) (x : Item) (back : List Item) → Narrows path items part → part ≡ front ++ x ∷ back → slice_cmp nat_cmp (path_of x) path ≡ Greater → Narrows path items front
+narrows_left path items part front x back has parts greater =
+    let rising = rises_so has.last part (front ++ x ∷ back) parts has.rising in
+    record {
+      same = sym (ap (taken_in path) parts ∙ taken_left path has.last front x back rising (ap is_lt (nat_list_cmp_total.antisymm path (path_of x) ∙ ap ordering_reverse greater))) ∙ has.same;
+      last = has.last;
+      rising = rises_front has.last front (x ∷ back) rising;
+    }
+
+pub narrows_here : (path : List ℕ) (items part front : List Item) (x : Item) (back : List Item) → Narrows path items part → part ≡ front ++ x ∷ back → slice_cmp nat_cmp (path_of x) path ≡ Equal → taken_of x ≡ taken_in path items
+narrows_here path items part front x back has parts equal =
+    let rising = rises_so has.last part (front ++ x ∷ back) parts has.rising in
+    let here : taken_in (path_of x) part ≡ taken_of x = ap (taken_in (path_of x)) parts ∙ taken_here has.last front x back rising in
+    sym (subst (λ (p : List ℕ). taken_in p part ≡ taken_of x) (slice_cmp-IsAntisymmetric nat_cmp-IsAntisymmetric (path_of x) path equal) here) ∙ has.same
+
+-- the two halves, and the item between them
+pub halved : (part : List Item) (m : ℕ) (front tail : List Item) (x : Item) → front ≡ take m part → tail ≡ drop m part → 0 < length tail → x ≡ get_or tail 0 x → part ≡ front ++ x ∷ take (length tail - 1) (drop 1 tail)
+halved part m front [] x front_is tail_is some is = absurd (omega arith)
+halved part m front (t ∷ ts) x front_is tail_is some is =
+    sym (take-append-drop m part) ∙ ap (λ (w : List Item). w ++ drop m part) (sym front_is) ∙ ap (λ (w : List Item). front ++ w) (sym tail_is)
+    ∙ ap (λ (y : Item). front ++ y ∷ ts) (sym is) ∙ ap (λ (w : List Item). front ++ x ∷ w) (sym (take_all (length (t ∷ ts) - 1) ts (omega arith)))
+
+pub compared : (path other given : List ℕ) (o : Ordering) → given ≡ path → o ≡ slice_cmp nat_cmp given other → slice_cmp nat_cmp path other ≡ o
+compared path other given o is answer = ap (λ (p : List ℕ). slice_cmp nat_cmp p other) (sym is) ∙ sym answer

@@ -1,16 +1,12 @@
 -- The value that bytes spell.
-use Rattle.std.proofs.Common.{subst, ◌≡◌, ℕ, List, [], ◌∷◌, Result, Ok, Err, refl, sym, ap, ◌∙◌}
-use Rattle.std.specs.Prelude.{map, IfOk, IfErr}
+use Rattle.image_kinds.proofs.Common.{subst, ◌≡◌, ℕ, List, [], ◌∷◌, Result, Ok, Err, refl, sym, ap, ◌∙◌, map, IfOk, IfErr, Entry, Item, Taken, Kept}
 use Rattle.std.specs.List.{filter_map, AllByRecursion}
-use Rattle.image_kinds.specs.declared.entry.Entry.{Entry}
-use Rattle.image_kinds.specs.declared.entry.Item.{Item}
-use Rattle.image_kinds.specs.declared.entry.Item.TheVariants.{Taken, Kept}
-use Rattle.image_kinds.specs.declared.format.Format.TheVariants as format
 use Rattle.image_kinds.specs.declared.decode.StreamFault.{StreamFault}
 use Rattle.image_kinds.specs.declared.decode.StreamFault.TheVariants.{Bad, NoMemory}
 use Rattle.image_kinds.specs.Streams.{taken_of, spelled, spelled_stream, spelled_image, IsItem, AreItems, IsStream, IsImage}
 use Rattle.image_kinds.specs.Decoding.{IsStreamFault, IsReadAs}
 use Rattle.image_kinds.proofs.Fronts.{one_value, spelled_is_good}
+use Rattle.image_kinds.specs.declared.format.Format.TheVariants as format
 
 same_taken : (x y : Entry) → Taken x ≡ Taken y → x ≡ y
 same_taken x y e = cc

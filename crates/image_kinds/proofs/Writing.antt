@@ -1,15 +1,11 @@
 -- Writing one part behind another.
-use Rattle.std.proofs.Common.{◌≡◌, ℕ, ◌+◌, ◌<◌, ◌≤◌, zero, suc, true, List, [], ◌∷◌, ◌++◌, length, get_or, take, refl, sym, ap, ◌∙◌, append_assoc, arith}
-use Rattle.std.specs.Prelude.{map}
-use Rattle.std.specs.List.{flat_map}
-use Rattle.std.proofs.lemmas.List.{flat_map_more, take_more, take_all}
-use Rattle.std.proofs.lemmas.Bool.{and_parts}
+use Rattle.image_kinds.proofs.Common.{◌≡◌, ℕ, ◌+◌, ◌<◌, ◌≤◌, zero, suc, true, List, [], ◌∷◌, ◌++◌, length, get_or, take, sym, ap, ◌∙◌, append_assoc, arith, map, flat_map, and_parts, Entry, Item, Taken, subst}
+use Rattle.std.proofs.lemmas.List.{flat_map_more, take_more, take_all, length-map}
 use Rattle.image_kinds.specs.Paths.{is_path_length, follows, rise_behind}
-use Rattle.image_kinds.specs.declared.entry.Entry.{Entry}
-use Rattle.image_kinds.specs.declared.entry.Item.{Item}
-use Rattle.image_kinds.specs.declared.entry.Item.TheVariants.{Taken}
 use Rattle.image_kinds.specs.Streams.{path_of, spelled_entry, spelled_item}
 use Rattle.image_kinds.proofs.Again.{length_of_path}
+use Rattle.std.proofs.lemmas.List.Folds.{flat_map-map}
+use Rattle.std.proofs.Math.ListN.{get_or-map}
 
 pub written : (out tagged pathed timed all path time content : List ℕ) → tagged ≡ out ++ 1 ∷ [] → pathed ≡ tagged ++ path → timed ≡ pathed ++ time → all ≡ timed ++ content → all ≡ out ++ 1 ∷ (path ++ (time ++ content))
 written out tagged pathed timed all path time content a b c d =
@@ -22,9 +18,8 @@ length_at last (x ∷ xs) zero d rising lt = length_of_path last (path_of x) (an
 length_at last (x ∷ xs) (suc k) d rising lt = length_at (path_of x) xs k d (and_parts (follows last (path_of x)) (rise_behind (path_of x) (map path_of xs)) rising).1 (omega arith)
 
 pub entry_length_at : (last : List ℕ) (entries : List Entry) (k : ℕ) (d : Entry) → rise_behind last (map path_of (map Taken entries)) ≡ true → k < length entries → is_path_length (length (get_or entries k d).path) ≡ true
-entry_length_at last [] k d rising lt = absurd (omega arith)
-entry_length_at last (x ∷ xs) zero d rising lt = length_of_path last x.path (and_parts (follows last x.path) (rise_behind x.path (map path_of (map Taken xs))) rising).0
-entry_length_at last (x ∷ xs) (suc k) d rising lt = entry_length_at x.path xs k d (and_parts (follows last x.path) (rise_behind x.path (map path_of (map Taken xs))) rising).1 (omega arith)
+entry_length_at last entries k d rising lt =
+    subst (λ (i : Item). is_path_length (length (path_of i)) ≡ true) (get_or-map Taken entries k d) (length_at last (map Taken entries) k (Taken d) rising (omega (arith, lt, length-map entries Taken)))
 
 -- one more entry is written
 pub written_more : (out new front : List ℕ) (entries : List Entry) (k : ℕ) (x : Entry) → k < length entries → x ≡ get_or entries k x → out ≡ front ++ flat_map spelled_entry (take k entries) → new ≡ out ++ spelled_entry x → new ≡ front ++ flat_map spelled_entry (take (k + 1) entries)
@@ -32,11 +27,7 @@ written_more out new front entries k x lt is so_far adds =
     adds ∙ ap (λ (w : List ℕ). w ++ spelled_entry x) so_far ∙ flat_map_more spelled_entry front (take k entries) x
     ∙ ap (λ (es : List Entry). front ++ flat_map spelled_entry es) (ap (λ (y : Entry). take k entries ++ y ∷ []) is ∙ sym (take_more entries k x lt))
 
-taken_spelled : (entries : List Entry) → flat_map spelled_item (map Taken entries) ≡ flat_map spelled_entry entries
-taken_spelled [] = refl
-taken_spelled (e ∷ entries) = ap (λ (w : List ℕ). spelled_entry e ++ w) (taken_spelled entries)
-
 pub written_all : (out new front : List ℕ) (entries : List Entry) (k : ℕ) → length entries ≤ k → out ≡ front ++ flat_map spelled_entry (take k entries) → new ≡ out ++ 0 ∷ [] → new ≡ front ++ (flat_map spelled_item (map Taken entries) ++ 0 ∷ [])
 written_all out new front entries k le so_far adds =
-    let whole : out ≡ front ++ flat_map spelled_item (map Taken entries) = so_far ∙ ap (λ (es : List Entry). front ++ flat_map spelled_entry es) (take_all k entries le) ∙ ap (λ (w : List ℕ). front ++ w) (sym (taken_spelled entries)) in
+    let whole : out ≡ front ++ flat_map spelled_item (map Taken entries) = so_far ∙ ap (λ (es : List Entry). front ++ flat_map spelled_entry es) (take_all k entries le) ∙ ap (λ (w : List ℕ). front ++ w) (sym (flat_map-map spelled_item Taken entries)) in
     adds ∙ ap (λ (w : List ℕ). w ++ 0 ∷ []) whole ∙ append_assoc front (flat_map spelled_item (map Taken entries)) (0 ∷ [])

@@ -1,11 +1,8 @@
 -- The image that is made of a client's stream.
-use Rattle.std.specs.Prelude.{ℕ, Bool, ◌&&◌, ◌||◌, nat_le, nat_eq, if◌then◌else◌, List, length, drop, map, filter, codes, Option, Some, None}
+use Rattle.std.specs.Prelude.{ℕ, Bool, ◌&&◌, ◌||◌, nat_le, nat_eq, if◌then◌else◌, List, length, drop, map, filter, codes, Option, Some, None, bytes_eq}
 use Rattle.std.specs.List.{list_any, starts_with}
-use Rattle.std.specs.Str.{bytes_eq}
 use Rattle.image_kinds.specs.Paths.{begins_with_slash}
-use Rattle.image_kinds.specs.declared.entry.Entry.{Entry}
-use Rattle.image_kinds.specs.declared.entry.Item.{Item}
-use Rattle.image_kinds.specs.declared.entry.Item.TheVariants.{Taken, Kept}
+use Rattle.image_kinds.specs.Streams.{Entry, Item, Taken, Kept}
 
 -- a selection is followed in a path by a slash: the path begins with it, and its next byte is a slash
 abbrev pub is_above : List ℕ → List ℕ → Bool

@@ -1,13 +1,12 @@
 -- How streams and images are spelled, and where bytes break that spelling.
-use Rattle.std.specs.Prelude.{◌≡◌, ℕ, Bool, true, false, ◌+◌, ◌^◌, ◌<◌, ◌==◌, ◌&&◌, ◌||◌, if◌then◌else◌, List, [], ◌∷◌, ◌++◌, length, map, codes, Option, Some, None}
+use Rattle.std.specs.Prelude.{◌≡◌, ℕ, Bool, true, false, ◌+◌, ◌^◌, ◌<◌, ◌==◌, ◌&&◌, ◌||◌, if◌then◌else◌, List, [], ◌∷◌, ◌++◌, length, map, codes, Option, Some, None, nat_eq}
 use Rattle.std.specs.List.{flat_map, AllByRecursion, starts_with}
-use Rattle.std.specs.Prelude.{nat_eq}
 use Rattle.std.specs.Int.{w16, w64, to_be_bytes}
 use Rattle.image_kinds.specs.Paths.{is_path_length, follows, are_rising}
-use Rattle.image_kinds.specs.declared.entry.Entry.{Entry}
-use Rattle.image_kinds.specs.declared.entry.Item.{Item}
-use Rattle.image_kinds.specs.declared.entry.Item.TheVariants.{Taken, Kept}
-use Rattle.image_kinds.specs.declared.format.Format.{Format}
+pub use Rattle.image_kinds.specs.declared.entry.Entry.{Entry}
+pub use Rattle.image_kinds.specs.declared.entry.Item.{Item}
+pub use Rattle.image_kinds.specs.declared.entry.Item.TheVariants.{Taken, Kept}
+pub use Rattle.image_kinds.specs.declared.format.Format.{Format}
 use Rattle.image_kinds.specs.declared.format.Format.TheVariants as format
 
 -- a stream has taken entries alone, an image kept ones too

@@ -1,12 +1,9 @@
 -- The tree of a chain of images.
-use Rattle.std.specs.Prelude.{ℕ, ◌<◌, if◌then◌else◌, List, [], ◌∷◌, Option, Some, None, Contains}
+use Rattle.std.specs.Prelude.{ℕ, ◌<◌, if◌then◌else◌, List, [], ◌∷◌, Option, Some, None, Contains, bytes_eq}
 use Rattle.std.specs.List.{filter_map, AllByRecursion}
-use Rattle.std.specs.Str.{bytes_eq}
-use Rattle.image_kinds.specs.declared.entry.Entry.{Entry}
-use Rattle.image_kinds.specs.declared.entry.Item.{Item}
-use Rattle.image_kinds.specs.declared.entry.Item.TheVariants.{Taken, Kept}
-use Rattle.image_kinds.specs.Streams.{path_of, IsStream}
+use Rattle.image_kinds.specs.Streams.{path_of, IsStream, Entry, Item, Taken, Kept}
 use Rattle.image_kinds.specs.Images.{selected, made}
+use Rattle.std.specs.Option.{option_or}
 
 -- the entry as which an image took a path, where it did
 abbrev pub taken_in : List ℕ → List Item → Option Entry
@@ -14,14 +11,10 @@ taken_in path [] = None
 taken_in path (Taken e ∷ items) = if bytes_eq e.path path then Some e else taken_in path items
 taken_in path (Kept kept ∷ items) = taken_in path items
 
-abbrev pub or_else : {A : Type 0} → Option A → Option A → Option A
-or_else None other = other
-or_else (Some x) other = Some x
-
 -- the entry as which the last of the images that took a path took it
 abbrev pub last_taken : List ℕ → List (List Item) → Option Entry
 last_taken path [] = None
-last_taken path (image ∷ later) = or_else (last_taken path later) (taken_in path image)
+last_taken path (image ∷ later) = option_or (last_taken path later) (taken_in path image)
 
 abbrev pub last_image : List (List Item) → List Item
 last_image [] = []

@@ -17,6 +17,3 @@ pub use entry::{Entry, Item};
 pub use make::make_image;
 pub use merge::merge_chain;
 pub use stream::{ImageBody, Stream};
-
-#[cfg(test)]
-mod tests;

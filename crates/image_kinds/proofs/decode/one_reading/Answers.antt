@@ -1,10 +1,8 @@
-use Rattle.std.proofs.Common.{refl}
-use Rattle.std.specs.Prelude.{map}
-use Rattle.image_kinds.specs.declared.entry.Item.TheVariants.{Taken}
-use Rattle.image_kinds.specs.declared.format.Format.TheVariants as format
+use Rattle.image_kinds.proofs.Common.{refl, map, Taken}
 use Rattle.image_kinds.specs.Streams.{spelled}
 use Rattle.image_kinds.proofs.Fronts.{one_value, one_offset, spelled_is_good}
 use Rattle.image_kinds.proofs.Values.{same_entries}
+use Rattle.image_kinds.specs.declared.format.Format.TheVariants as format
 use Rattle.image_kinds.proofs.decode.one_reading.Goals as goal
 
 pub returns : goal.returns

@@ -1,10 +1,7 @@
-use Rattle.std.proofs.Common.{◌≡◌, List, Ok, Err, Some, ℕ, sym, ap, ◌∙◌, subst}
-use Rattle.std.specs.Prelude.{Option}
+use Rattle.image_kinds.proofs.Common.{◌≡◌, List, Ok, Err, Some, ℕ, sym, ap, ◌∙◌, subst, Option, Item}
 use Rattle.image_kinds.specs.Streams.{last_path}
 use Rattle.image_kinds.specs.Fields.{item_at, IsRead}
-use Rattle.image_kinds.specs.declared.entry.Item.{Item}
-use Rattle.image_kinds.proofs.Fronts.{has_more, falls}
-use Rattle.image_kinds.proofs.Faults.{item_fault}
+use Rattle.image_kinds.proofs.Fronts.{has_more, falls, item_fault}
 use Rattle.std.proofs.lemmas.Result.{err_from_is_err_and}
 use Rattle.image_kinds.proofs.decode.read_items.Goals as goal
 

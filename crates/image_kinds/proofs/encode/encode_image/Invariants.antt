@@ -1,7 +1,6 @@
-use Rattle.std.proofs.Common.{◌≡◌, ◌++◌, take}
-use Rattle.std.specs.List.{flat_map}
-use Rattle.image_kinds.specs.declared.format.Format.TheVariants as format
+use Rattle.std.proofs.Common.{◌≡◌, ◌++◌, take, flat_map}
 use Rattle.image_kinds.specs.Streams.{letters_of, spelled_item}
+use Rattle.image_kinds.specs.declared.format.Format.TheVariants as format
 use Rattle.image_kinds.proofs.encode.encode_image.Given as goal
 
 abbrev pub invariant-loop-item : goal.invariant-loop-item

@@ -1,15 +1,10 @@
-use Rattle.std.proofs.Common.{arith, ◌++◌, [], ◌∷◌, ◌≡◌, ◌-◌, ◌∙◌, sym, ap, subst, Some, None, List, length, take}
-use Rattle.std.specs.Prelude.{Option}
+use Rattle.image_kinds.proofs.Common.{arith, ◌++◌, [], ◌∷◌, ◌≡◌, ◌-◌, ◌∙◌, sym, ap, subst, Some, None, List, length, take, Option, filter_map, append-nil, Entry, Item}
 use Rattle.std.specs.Global.{Vec}
-use Rattle.std.specs.List.{filter_map}
-use Rattle.std.proofs.lemmas.List.{append-nil}
-use Rattle.image_kinds.specs.declared.entry.Entry.{Entry}
-use Rattle.image_kinds.specs.declared.entry.Item.{Item}
 use Rattle.image_kinds.specs.Streams.{IsImage}
 use Rattle.image_kinds.specs.Trees.{entry_behind}
 use Rattle.image_kinds.proofs.Chains.{merged_more, entries_more, merged_is, merged_all}
-use Rattle.image_kinds.proofs.merge.merged.Goals as goal
 use Rattle.image_kinds.proofs.merge.merged.Goals.{in-Some+in_ok-copy_of+in_ok-push, in_default-entry_behind}
+use Rattle.image_kinds.proofs.merge.merged.Goals as goal
 
 pub loop-item-preserved : goal.loop-item-preserved
 loop-item-preserved c =

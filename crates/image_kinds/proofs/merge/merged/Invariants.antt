@@ -1,10 +1,8 @@
-use Rattle.std.proofs.Common.{◌≡◌, take}
-use Rattle.std.specs.Prelude.{map}
+use Rattle.image_kinds.proofs.Common.{◌≡◌, take, map, Taken}
 use Rattle.std.specs.List.{AllByRecursion, filter_map}
-use Rattle.image_kinds.specs.declared.entry.Item.TheVariants.{Taken}
-use Rattle.image_kinds.specs.declared.format.Format.TheVariants as format
 use Rattle.image_kinds.specs.Streams.{IsItem}
 use Rattle.image_kinds.specs.Trees.{entry_behind}
+use Rattle.image_kinds.specs.declared.format.Format.TheVariants as format
 use Rattle.image_kinds.proofs.merge.merged.Given as goal
 
 abbrev pub invariant-loop-item : goal.invariant-loop-item

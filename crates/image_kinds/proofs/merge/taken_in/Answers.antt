@@ -1,7 +1,6 @@
-use Rattle.std.proofs.Common.{arith, ◌/◌, ◌-◌, length, take, drop, ◌∙◌}
-use Rattle.std.specs.declared.cmp.Ordering.TheVariants.{Less, Equal, Greater}
+use Rattle.std.proofs.Common.{arith, ◌/◌, ◌-◌, length, take, drop, ◌∙◌, Less, Equal, Greater}
 use Rattle.image_kinds.specs.Streams.{path_of}
-use Rattle.image_kinds.proofs.Halving.{halved, compared, narrows_right, narrows_left, narrows_here}
+use Rattle.image_kinds.proofs.Trees.{halved, compared, narrows_right, narrows_left, narrows_here}
 use Rattle.image_kinds.proofs.merge.taken_in.Goals as goal
 
 pub loop-path-preserved-in-Less : goal.loop-path-preserved-in-Less

@@ -1,5 +1,5 @@
 use Rattle.std.proofs.Common.{length}
-use Rattle.image_kinds.proofs.Halving.{Narrows}
+use Rattle.image_kinds.proofs.Trees.{Narrows}
 use Rattle.image_kinds.proofs.merge.taken_in.Given as goal
 
 abbrev pub invariant-loop-path : goal.invariant-loop-path
