@@ -7,4 +7,6 @@ mod disk_tests;
 #[cfg(test)]
 mod due_tests;
 #[cfg(test)]
+mod image_tests;
+#[cfg(test)]
 mod tests;
