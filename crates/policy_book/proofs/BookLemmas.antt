@@ -4,10 +4,10 @@ use Rattle.site_types.specs.declared.unit.Unit.{Unit as StorageUnit}
 use Rattle.policy_book.specs.declared.client.Client.{Client}
 use Rattle.policy_book.specs.declared.book.Book.TheInside.{Inside}
 use Rattle.policy_book.specs.Lists.{AreByName}
-use Rattle.policy_book.specs.Places.{StandsAt}
+use Rattle.slp_tree.specs.Places.{StandsAt}
 use Rattle.policy_book.specs.Book.{Book, Policy, policy_name}
 use Rattle.policy_book.specs.Changes.{with_policy}
-use Rattle.policy_book.proofs.ListLemmas.{changed_in_place, stands_as}
+use Rattle.slp_tree.proofs.ListLemmas.{changed_in_place, stands_as}
 
 -- what contracts see of these fields
 abbrev pub seen : Inside → Book

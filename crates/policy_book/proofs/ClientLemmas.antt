@@ -7,11 +7,11 @@ use Rattle.std.proofs.lemmas.Map.Lookups.{exact_bytes}
 use Rattle.policy_book.specs.declared.client.Client.{Client}
 use Rattle.policy_book.specs.declared.book.Book.TheInside.{Inside}
 use Rattle.policy_book.specs.Lists.{AreByName, named, has, put}
-use Rattle.policy_book.specs.Places.{StandsAt, LacksAt}
+use Rattle.slp_tree.specs.Places.{StandsAt, LacksAt}
 use Rattle.policy_book.specs.Book.{Book, client_name}
 use Rattle.policy_book.specs.Changes.{raised}
 use Rattle.policy_book.proofs.BookLemmas.{seen}
-use Rattle.policy_book.proofs.ListLemmas.{named_at, unnamed_at, put_at, inserted_at, lacks_at, lacks_as, rising_put}
+use Rattle.slp_tree.proofs.ListLemmas.{put_found, put_lacking, lacks_at, lacks_as, rising_put}
 
 abbrev with_last : List ℕ → ℕ → Option Client → Client
 with_last name time found = record { name = name; last = max (option_map_or (λ c. c.last) found 0) time }
@@ -22,18 +22,13 @@ sealed name time xs = with_last name time (named client_name name xs)
 
 pub sealed_at : (xs : List Client) (name : List ℕ) (time i : ℕ) (before after : Client) → AreByName client_name xs → StandsAt client_name xs name i → before ≡ get_or xs i before → after ≡ raised time before → set xs i after ≡ put client_name (sealed name time xs) xs
 sealed_at xs name time i before after rising at is made =
-    let item = get_or xs i before in
-    let same : item.name ≡ name = exact_bytes item.name name (at.1 before) in
-    let found : sealed name time xs ≡ record { name = name; last = max item.last time } = ap (with_last name time) (named_at client_name xs name i before rising at) in
-    let as_item : record { name = name; last = max item.last time } ≡ raised time item = λ j. record { name = sym same j; last = max item.last time } in
-    let all : sealed name time xs ≡ after = found ∙ as_item ∙ ap (raised time) (sym is) ∙ sym made in
-    sym (put_at client_name xs (sealed name time xs) i rising at ∙ ap (set xs i) all)
+    let same : before.name ≡ name = ap (λ (c : Client). c.name) is ∙ exact_bytes (get_or xs i before).name name (at.1 before) in
+    put_found client_name (with_last name time) xs name i before after (λ o. refl) rising at is (made ∙ (λ j. record { name = same j; last = max before.last time }))
 
 sealed_new : (xs : List Client) (name : List ℕ) (time i : ℕ) (new : Client) → LacksAt client_name xs name i → new ≡ record { name = name; last = time } → insert xs i new ≡ put client_name (sealed name time xs) xs
 sealed_new xs name time i new lacks made =
     let fresh : max 0 time ≡ time = simp unary_clauses refl in
-    let all : sealed name time xs ≡ new = ap (with_last name time) (unnamed_at client_name xs name i lacks) ∙ (λ j. record { name = name; last = fresh j }) ∙ sym made in
-    sym (inserted_at client_name xs (sealed name time xs) i lacks ∙ ap (insert xs i) all)
+    put_lacking client_name (with_last name time) xs name i new (λ o. refl) lacks (made ∙ (λ j. record { name = name; last = sym fresh j }))
 
 -- a list, as it is read, in which the client was inserted at its place
 pub inserted : (xs seen after : List Client) (name : List ℕ) (time i : ℕ) (new : Client) → seen ≡ xs → LacksAt client_name seen name i → new ≡ record { name = name; last = time } → after ≡ insert xs i new → after ≡ put client_name (sealed name time xs) xs

@@ -1,4 +1,3 @@
-pub mod ListLemmas
 pub mod BookLemmas
 pub mod RefusalLemmas
 pub mod LineLemmas

@@ -1,5 +1,5 @@
 -- Lists that are read and joined piece by piece.
-use Rattle.std.proofs.Common.{ℕ, true, false, Result, Ok, Err, ◌≡◌, ◌∙◌, List, [], ◌∷◌, ◌++◌, Option, Some, None, refl, sym, ap, option_map, append_assoc, append-nil}
+use Rattle.std.proofs.Common.{ℕ, true, false, Result, Ok, Err, ◌≡◌, ◌∙◌, List, [], ◌∷◌, ◌++◌, Option, Some, None, refl, sym, ap, append_assoc}
 use Rattle.policy_book.specs.SiteFile.{before, joined, is_among, text_of, word_of, words_of}
 use Rattle.toml.specs.Data.{Data, Members, member}
 use Rattle.policy_book.specs.Loading.{Adds}
@@ -17,24 +17,9 @@ module _ {A : Type 0} where
   joined_before xs y None = refl
   joined_before xs y (Some zs) = ap Some (sym (append_assoc xs (y ∷ []) zs))
 
-  pub joined_map : (xs : List A) (ys : Option (List A)) → joined (Some xs) ys ≡ option_map (λ zs. xs ++ zs) ys
-  joined_map xs None = refl
-  joined_map xs (Some ys) = refl
-
-  pub joined_nothing : (xs : List A) → joined (Some xs) (Some []) ≡ Some xs
-  joined_nothing xs = ap Some (append-nil xs)
-
   pub joined_none : (xs : List A) (ys : Option (List A)) → joined (Some xs) ys ≡ None → ys ≡ None
   joined_none xs None h = refl
   joined_none xs (Some ys) h = absurd (cc)
-
-  -- one piece more is read, and the rest follows
-  pub joined_more : (old xs now : List A) (all piece rest : Option (List A)) → joined (Some old) all ≡ joined (Some xs) (joined piece rest) → joined (Some xs) piece ≡ Some now → joined (Some old) all ≡ joined (Some now) rest
-  joined_more old xs now all piece rest so_far added = so_far ∙ joined_assoc (Some xs) piece rest ∙ ap (λ ys. joined ys rest) added
-
-  -- a piece isn't there
-  pub joined_lacks : (old xs : List A) (all piece rest : Option (List A)) → joined (Some old) all ≡ joined (Some xs) (joined piece rest) → piece ≡ None → all ≡ None
-  joined_lacks old xs all piece rest so_far lacks = joined_none old all (so_far ∙ ap (λ ys. joined (Some xs) (joined ys rest)) lacks)
 
   -- where the rest isn't there, nothing is
   pub joined_no_rest : (xs : Option (List A)) → joined xs None ≡ None

@@ -1,5 +1,4 @@
 pub mod Lists
-pub mod Places
 pub mod Book
 pub mod Kinds
 pub mod Changes

@@ -9,7 +9,7 @@ use Rattle.policy_book.specs.declared.staged.StagedChange.TheVariants as staged
 use Rattle.policy_book.specs.Book.{Policy, Book, unit_name, policy_name, unit_limit}
 use Rattle.policy_book.specs.Changes.{unit_added, unit_changed, client_added, client_removed, policy_added, policy_removed, with_policy, policy_with, with_listed, without_listed, with_path, without_path, with_schedule, without_schedule}
 use Rattle.policy_book.specs.Kinds.{takes_files}
-use Rattle.policy_book.specs.Places.{StandsAt}
+use Rattle.slp_tree.specs.Places.{StandsAt}
 use Rattle.policy_book.specs.Requests.{schedule_of, book_after}
 
 abbrev pub policy_after : PolicyChange → Policy → Policy

@@ -5,10 +5,10 @@ ghost use Rattle.policy_book.specs.Requests.{is_of_book, refusals_of, book_after
 ghost use Rattle.policy_book.specs.Staged.{IsReady, staged_after};
 
 use crate::book::Book;
-use crate::named::{put, remove};
 use crate::units::{change_unit, new_unit};
 use crate::{BookFault, Client, NoMemory, Policy, StagedChange};
 use site_types::{PolicyType, Request};
+use slp_tree::named::{put, remove};
 use std::alloc::Global;
 
 impl Book {

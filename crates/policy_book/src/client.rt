@@ -1,5 +1,6 @@
 use crate::NoMemory;
 use site_types::{Copied, Name};
+use slp_tree::named::Named;
 use std::alloc::Global;
 
 /// A client of the site.
@@ -16,5 +17,15 @@ impl Copied for Client {
             name: self.name.copy(alloc)?,
             last: self.last,
         })
+    }
+}
+
+impl Named for Client {
+    ghost use Rattle.policy_book.specs.Book.{client_name};
+
+    ghost name_of = { client_name };
+
+    fn name(&self) -> &Name {
+        &self.name
     }
 }

@@ -7,10 +7,10 @@ ghost use Rattle.policy_book.specs.Changes.{client_add_refusals, client_remove_r
 ghost use Rattle.policy_book.specs.Refusals.{Allows};
 
 use crate::book::Book;
-use crate::named::place;
 use crate::refusals::{check_new, check_room, known_place};
 use crate::{BookFault, Client, NoMemory, Policy};
 use site_types::{Name, Text};
+use slp_tree::named::place;
 use std::alloc::Global;
 
 /// How many clients there may be.

@@ -5,9 +5,9 @@ ghost use Rattle.policy_book.specs.Lists.{named};
 ghost use Rattle.policy_book.specs.Book.{unit_name, client_name, policy_name};
 
 use crate::book::Book;
-use crate::named::find;
 use crate::{Client, Policy};
 use site_types::{Name, Unit};
+use slp_tree::named::find;
 
 impl Book {
     /// The unit of this name, and None exactly where there is none.

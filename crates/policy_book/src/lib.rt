@@ -10,7 +10,6 @@ mod fault;
 mod finders;
 mod initial;
 mod listed;
-mod named;
 mod policies;
 mod policy;
 mod refusals;

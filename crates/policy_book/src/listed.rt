@@ -1,6 +1,6 @@
 // The clients that a policy lists.
 ghost use Rattle.std.specs.Prelude.{IfOk};
-ghost use Rattle.policy_book.specs.Places.{StandsAt};
+ghost use Rattle.slp_tree.specs.Places.{StandsAt};
 ghost use Rattle.policy_book.specs.Book.{policy_name};
 ghost use Rattle.policy_book.specs.Changes.{client_list_refusals, client_unlist_refusals};
 ghost use Rattle.policy_book.specs.Refusals.{Allows};

@@ -2,7 +2,7 @@
 ghost use Rattle.std.specs.Prelude.{◌≡◌, [], ◌∷◌, IfOk, Some, slice_index_or};
 ghost use Rattle.std.specs.Option.{option_copied};
 ghost use Rattle.policy_book.specs.Lists.{named};
-ghost use Rattle.policy_book.specs.Places.{StandsAt};
+ghost use Rattle.slp_tree.specs.Places.{StandsAt};
 ghost use Rattle.policy_book.specs.Book.{Policy as PolicyValue, policy_name};
 ghost use Rattle.policy_book.specs.Changes.{policy_add_refusals, policy_change_refusals, policy_remove_refusals, has_lifecycle, lacks_policy};
 ghost use Rattle.policy_book.specs.Refusals.{Allows};

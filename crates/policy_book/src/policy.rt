@@ -7,10 +7,10 @@ ghost use Rattle.policy_book.specs.Book.{schedule_name};
 ghost use Rattle.policy_book.specs.Changes.{policy_with, with_schedule, without_path};
 ghost use Rattle.policy_book.specs.Staged.{policy_after};
 
-use crate::named::{find, put, remove};
 use crate::schedule::schedule_of;
 use crate::{NoMemory, PolicyChange};
 use site_types::{Copied, Name, Schedule, Text, copy_all};
+use slp_tree::named::{Named, find, put, remove};
 use std::alloc::Global;
 use std::marker::Model;
 
@@ -47,6 +47,16 @@ impl Copied for Policy {
             selections: copy_all(alloc, &self.selections)?,
             schedules: copy_all(alloc, &self.schedules)?,
         })
+    }
+}
+
+impl Named for Policy {
+    ghost use Rattle.policy_book.specs.Book.{policy_name};
+
+    ghost name_of = { policy_name };
+
+    fn name(&self) -> &Name {
+        Policy::name(self)
     }
 }
 

@@ -2,13 +2,13 @@
 ghost use Rattle.std.specs.Prelude.{◌≡◌, IfOk, [], ◌∷◌, not, nat_le};
 ghost use Rattle.policy_book.specs.Lists.{AreByName, has};
 ghost use Rattle.policy_book.specs.Changes.{pair_text};
-ghost use Rattle.policy_book.specs.Places.{StandsAt};
+ghost use Rattle.slp_tree.specs.Places.{StandsAt};
 ghost use Rattle.policy_book.specs.Refusals.{Allows};
 ghost use Rattle.policy_book.specs.declared.fault.BookFault.TheVariants as fault;
 
-use crate::named::{Named, find, place};
 use crate::{BookFault, NoMemory};
 use site_types::{Name, Text};
+use slp_tree::named::{Named, find, place};
 use std::alloc::Global;
 
 // There is room for one more of a kind.

@@ -1,6 +1,6 @@
 // The schedules of a policy.
 ghost use Rattle.std.specs.Prelude.{◌&&◌, [], ◌∷◌, not, IfOk};
-ghost use Rattle.policy_book.specs.Places.{StandsAt};
+ghost use Rattle.slp_tree.specs.Places.{StandsAt};
 ghost use Rattle.policy_book.specs.Book.{policy_name};
 ghost use Rattle.policy_book.specs.Changes.{is_full, schedule_add_refusals, schedule_change_refusals, schedule_remove_refusals};
 ghost use Rattle.policy_book.specs.Refusals.{Allows};

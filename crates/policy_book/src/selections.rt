@@ -2,7 +2,7 @@
 ghost use Rattle.std.specs.Prelude.{[], ◌∷◌, not, IfOk};
 ghost use Rattle.std.specs.List.{list_any};
 ghost use Rattle.std.specs.Str.{bytes_eq};
-ghost use Rattle.policy_book.specs.Places.{StandsAt};
+ghost use Rattle.slp_tree.specs.Places.{StandsAt};
 ghost use Rattle.policy_book.specs.Book.{policy_name};
 ghost use Rattle.policy_book.specs.Changes.{select_refusals, unselect_refusals};
 ghost use Rattle.site_types.specs.Paths.{written};

@@ -3,7 +3,7 @@ use Rattle.policy_book.specs.declared.staged.StagedChange.{StagedChange}
 use Rattle.policy_book.specs.Book.{Book, unit_name}
 use Rattle.policy_book.specs.Changes.{unit_with, unit_changed}
 use Rattle.policy_book.specs.Staged.{policy_after, staged_after, IsReady}
-use Rattle.policy_book.proofs.ListLemmas.{changed_in_place, stands_as}
+use Rattle.slp_tree.proofs.ListLemmas.{changed_in_place, stands_as}
 use Rattle.policy_book.proofs.BookLemmas.{seen, with_units, policy_in_place}
 use Rattle.policy_book.proofs.book.Book.carry_out.Goals as goal
 

@@ -2,7 +2,7 @@ use Rattle.std.proofs.Common.{◌∙◌, sym, ap, refl}
 use Rattle.policy_book.specs.declared.client.Client.{Client}
 use Rattle.policy_book.specs.Book.{client_name}
 use Rattle.policy_book.specs.Changes.{raised, last_raised}
-use Rattle.policy_book.proofs.ListLemmas.{changed_in_place, changed_lacking, stands_as, lacks_as}
+use Rattle.slp_tree.proofs.ListLemmas.{changed_in_place, changed_lacking, stands_as, lacks_as}
 use Rattle.policy_book.proofs.BookLemmas.{seen, with_clients}
 use Rattle.policy_book.proofs.book.Book.raise_last.Goals as goal
 

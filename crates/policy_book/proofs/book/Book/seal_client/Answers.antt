@@ -2,7 +2,7 @@ use Rattle.std.proofs.Common.{◌∙◌, ap, refl}
 use Rattle.policy_book.specs.declared.client.Client.{Client}
 use Rattle.policy_book.specs.Book.{client_name}
 use Rattle.policy_book.specs.Changes.{client_sealed}
-use Rattle.policy_book.proofs.ListLemmas.{stands_as}
+use Rattle.slp_tree.proofs.ListLemmas.{stands_as}
 use Rattle.policy_book.proofs.BookLemmas.{seen, with_clients}
 use Rattle.policy_book.proofs.ClientLemmas.{sealed_at, inserted, rising_sealed, client_lacks}
 use Rattle.policy_book.proofs.book.Book.seal_client.Goals as goal
