@@ -8,6 +8,3 @@ pub use catalogue::Catalogue;
 
 /// No memory was left.
 pub type NoMemory = std::alloc::AllocError;
-
-#[cfg(test)]
-mod tests;

@@ -12,8 +12,6 @@ mod open;
 mod records;
 mod size;
 mod spelling;
-#[cfg(test)]
-mod tests;
 
 pub use entry::{Entry, WholeImage};
 pub use fault::JournalFault;
