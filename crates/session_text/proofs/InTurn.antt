@@ -1,20 +1,42 @@
 -- The turns of a text, one after another.
-use Rattle.std.proofs.Common.{◌≡◌, ◌<◌, ◌≤◌, ◌+◌, ℕ, zero, suc, List, [], ◌∷◌, ◌++◌, length, refl, sym, ◌∙◌, ap, arith, length-append}
-use Rattle.std.specs.Prelude.{Option, Some, None}
-use Rattle.std.specs.Option.{option_map}
-use Rattle.session_text.specs.Turns.{Turn, request, broken, whole_turn, last_turn, first_turn, or_last, turns_from, turns_up_to, turns, whole_turns}
+use Rattle.std.proofs.Common.{◌≡◌, ◌<◌, ◌≤◌, ◌+◌, ℕ, zero, suc, Bool, true, false, nat_lt, nat_le, if◌then◌else◌, List, [], ◌∷◌, ◌++◌, length, drop, Option, Some, None, option_map, refl, sym, ◌∙◌, ap, arith, length-drop}
+use Rattle.session_text.specs.Turns.{Turn, request, broken, line_limit, line_end, words_before, payload_size, cut_payload, turn_at, whole_turn, last_turn, first_turn, or_last, turns_from, turns_up_to, turns}
 use Rattle.session_text.specs.Session.{turn_asked, IsNext, IsWhole, IsInTurn, IsCut}
 use Rattle.session_text.specs.declared.session.Next.{Next}
 use Rattle.session_text.specs.declared.session.Next.TheVariants.{Request, Last, Broken, End, Failed, NoMemory}
-use Rattle.session_text.proofs.Fronts.{rest_in, whole_turn-takes}
+use Rattle.session_text.proofs.Lines.{line_end-within}
+
+abbrev found : Turn → List ℕ → Option (Turn × List ℕ)
+found turn rest = Some (turn, rest)
+
+abbrev turn_in : Option (Turn × List ℕ) → Turn
+turn_in None = broken 0
+turn_in (Some taken) = taken.0
+
+abbrev rest_in : Option (Turn × List ℕ) → List ℕ
+rest_in None = []
+rest_in (Some taken) = taken.1
+
+-- a turn behind a test is the one that was taken
+chosen_turn : (test : Bool) (turn asked : Turn) (left rest : List ℕ) → (if test then found turn left else None) ≡ found asked rest → (turn ≡ asked) × (left ≡ rest)
+chosen_turn true turn asked left rest is = (ap turn_in is, ap rest_in is)
+chosen_turn false turn asked left rest is = absurd (cc is)
+
+no_fault : (index : ℕ) (words : List (List ℕ)) (payload : List ℕ) → broken index ≡ request words payload → ⊥
+no_fault index words payload is = cc is
+
+sized_shortens : (text : List ℕ) (words : List (List ℕ)) (payload rest : List ℕ) (end : ℕ) (size : Option ℕ) → end < length text → cut_payload (words_before end text) size (drop (end + 1) text) ≡ Some (request words payload, rest) → length rest < length text
+sized_shortens text words payload rest end None within is = absurd (no_fault _ words payload (ap turn_in is))
+sized_shortens text words payload rest end (Some size) within is =
+    let left : length (drop size (drop (end + 1) text)) ≡ length rest = ap (λ (l : List ℕ). length l) (chosen_turn (nat_le size (length (drop (end + 1) text))) _ (request words payload) _ rest is).1 in
+    omega (arith, within, left, length-drop size (drop (end + 1) text), length-drop (end + 1) text)
+
+line_shortens : (text : List ℕ) (words : List (List ℕ)) (payload rest : List ℕ) (end : Option ℕ) → line_end text ≡ end → turn_at end text ≡ Some (request words payload, rest) → length rest < length text
+line_shortens text words payload rest None ends is = absurd (no_fault 0 words payload (chosen_turn (nat_lt line_limit (length text)) _ (request words payload) _ rest is).0)
+line_shortens text words payload rest (Some end) ends is = sized_shortens text words payload rest end (payload_size (words_before end text)) (line_end-within text end ends) is
 
 whole_shortens : (text : List ℕ) (words : List (List ℕ)) (payload rest : List ℕ) → whole_turn text ≡ Some (request words payload, rest) → length rest < length text
-whole_shortens text words payload rest is =
-    let taken = whole_turn-takes text words payload rest is in
-    let some : 0 < length taken.front = taken.some in
-    let count : length (taken.front ++ rest) ≡ length taken.front + length rest = length-append taken.front rest in
-    let all : length text ≡ length (taken.front ++ rest) = ap (λ (l : List ℕ). length l) taken.split in
-    omega arith
+whole_shortens text words payload rest is = line_shortens text words payload rest (line_end text) refl is
 
 abbrev alone : Turn → Turn × List ℕ
 alone turn = (turn, [])
@@ -55,28 +77,18 @@ same_turns turn shortens none (suc m) (suc n) text le le' =
     same_turns turn shortens none m n rest (omega arith) (omega arith))
     (turn text) refl
 
-unfolds : (turn : List ℕ → Option (Turn × List ℕ)) → ((text : List ℕ) (words : List (List ℕ)) (payload rest : List ℕ) → turn text ≡ Some (request words payload, rest) → length rest < length text) → turn [] ≡ None
-    → (text : List ℕ) → turns_up_to turn (length text) text ≡ turns_from (λ (rest : List ℕ). turns_up_to turn (length rest) rest) (turn text)
-unfolds turn shortens none text =
-    same_turns turn shortens none (length text) (suc (length text)) text (omega arith) (omega arith)
-    ∙ same_from turn (turns_up_to turn (length text)) (λ (rest : List ℕ). turns_up_to turn (length rest) rest) text
-    (λ words payload rest is.
-    let fewer : length rest < length text = shortens text words payload rest is in
-    same_turns turn shortens none (length text) (length rest) rest (omega arith) (omega arith))
-    (turn text) refl
-
 -- the turns of a text are its first turn and those behind it
-pub turns-unfolds : (text : List ℕ) → turns text ≡ turns_from turns (first_turn text)
-turns-unfolds text = unfolds first_turn first_shortens refl text
-
-pub whole_turns-unfolds : (text : List ℕ) → whole_turns text ≡ turns_from whole_turns (whole_turn text)
-whole_turns-unfolds text = unfolds whole_turn whole_shortens refl text
+turns-unfolds : (text : List ℕ) → turns text ≡ turns_from turns (first_turn text)
+turns-unfolds text =
+    same_turns first_turn first_shortens refl (length text) (suc (length text)) text (omega arith) (omega arith)
+    ∙ same_from first_turn (turns_up_to first_turn (length text)) turns text
+    (λ words payload rest is.
+    let fewer : length rest < length text = first_shortens text words payload rest is in
+    same_turns first_turn first_shortens refl (length text) (length rest) rest (omega arith) (omega arith))
+    (first_turn text) refl
 
 pub turns-first : (text : List ℕ) (first : Option (Turn × List ℕ)) → first_turn text ≡ first → turns text ≡ turns_from turns first
 turns-first text first is = turns-unfolds text ∙ ap (λ (o : Option (Turn × List ℕ)). turns_from turns o) is
-
-pub whole_turns-whole : (text : List ℕ) (whole : Option (Turn × List ℕ)) → whole_turn text ≡ whole → whole_turns text ≡ turns_from whole_turns whole
-whole_turns-whole text whole is = whole_turns-unfolds text ∙ ap (λ (o : Option (Turn × List ℕ)). turns_from whole_turns o) is
 
 pub first_turn-whole : (text : List ℕ) (turn : Turn × List ℕ) → whole_turn text ≡ Some turn → first_turn text ≡ Some turn
 first_turn-whole text turn is = ap (λ (o : Option (Turn × List ℕ)). or_last o text) is

@@ -1,6 +1,5 @@
 -- Where a line ends.
-use Rattle.std.proofs.Common.{◌≡◌, ◌<◌, ◌≤◌, ◌+◌, ℕ, min, List, ◌++◌, length, take, get_or, Bool, true, false, cond, sym, ◌∙◌, ap, arith, length-append, length-take}
-use Rattle.std.specs.Prelude.{position, Some, None, nat_lt}
+use Rattle.std.proofs.Common.{◌≡◌, ◌<◌, ◌≤◌, ◌+◌, ℕ, min, List, ◌++◌, length, take, get_or, Bool, true, false, cond, sym, ◌∙◌, ap, arith, length-append, length-take, position, Some, None, nat_lt}
 use Rattle.std.specs.List.{position_or_len}
 use Rattle.std.proofs.lemmas.List.{take_min, take-append-le, get_or-take, get_or_append_left}
 use Rattle.std.proofs.lemmas.List.Quantifiers.{position-Some}

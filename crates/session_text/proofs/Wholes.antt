@@ -1,35 +1,31 @@
 -- Whole turns, and those that are cut off.
-use Rattle.std.proofs.Common.{◌≡◌, ◌<◌, ◌≤◌, ◌+◌, ℕ, zero, suc, min, List, [], ◌∷◌, ◌++◌, length, take, drop, Bool, true, false, refl, sym, ◌∙◌, ap, subst, ◌⊎◌, arith, append_assoc, length-append, length-take, take-append-drop, inl, inr}
-use Rattle.std.specs.Option.{option_map}
-use Rattle.std.specs.Prelude.{Option, Some, None, nat_lt, nat_le, if◌then◌else◌}
+use Rattle.std.proofs.Common.{◌≡◌, ◌<◌, ◌≤◌, ◌+◌, ℕ, zero, suc, min, List, [], ◌∷◌, ◌++◌, length, take, drop, true, false, refl, sym, ◌∙◌, ap, subst, ◌⊎◌, arith, append_assoc, length-append, length-take, take-append-drop, inl, inr, option_map, Option, Some, None, nat_lt, nat_le}
 use Rattle.std.proofs.lemmas.List.{take_all, drop_all, take_at, drop_at, take-take, take-append-le, drop-append-le, drop-drop, append-nil, length-take-le, drop_min}
-use Rattle.std.proofs.lemmas.Bool.{cases_lt}
+use Rattle.std.proofs.lemmas.Bool.{cases_lt, cond-true, cond-false}
 use Rattle.std.proofs.lemmas.Bool.Decides.{nat_tests}
 use Rattle.session_text.specs.Turns.{Turn, request, broken, line_limit, line_end, words_of, without_return, words_before, payload_size, asked_words, last_index, cut_payload, turn_of, turn_at, whole_turn, last_turn, or_last, cut_off, turn_without_end}
 use Rattle.session_text.specs.Session.{BreaksAt, IsCut, IsLast}
 use Rattle.session_text.specs.declared.session.Next.{Next}
 use Rattle.session_text.specs.declared.session.Next.TheVariants.{Request, Last, Broken, End, Failed, NoMemory}
-use Rattle.session_text.proofs.Lists.{same_parts}
 use Rattle.session_text.proofs.Lines.{line_end-within, line_end-more, line_end-take, line_end-long}
+use Rattle.std.proofs.Math.Nat.{min_comm}
 
-chosen : {A : Type 0} (b : Bool) (x y : A) → b ≡ true → (if b then x else y) ≡ x
-chosen b x y is = (λ i. if is i then x else y)
-
-other : {A : Type 0} (b : Bool) (x y : A) → b ≡ false → (if b then x else y) ≡ y
-other b x y is = (λ i. if is i then x else y)
-
-min_comm : (m n : ℕ) → min m n ≡ min n m
-min_comm m n = omega arith
+-- joined parts of equal length at the front are equal, and so is what stands behind them
+same_parts : (a b c d : List ℕ) → length a ≡ length c → a ++ b ≡ c ++ d → (a ≡ c) × (b ≡ d)
+same_parts a b c d long is = (
+  sym (take_at a b (length a) refl) ∙ (λ i. take (length a) (is i)) ∙ take_at c d (length a) (sym long),
+  sym (drop_at a b (length a) refl) ∙ (λ i. drop (length a) (is i)) ∙ drop_at c d (length a) (sym long),
+)
 
 pub cut_payload-whole : (words : List (List ℕ)) (size : ℕ) (text : List ℕ) → size ≤ length text → cut_payload words (Some size) text ≡ Some (request (asked_words words) (take size text), drop size text)
 cut_payload-whole words size text le =
     let test : nat_le size (length text) ≡ true = grind (arith, nat_tests) in
-    chosen _ _ _ test
+    cond-true _ _ _ test
 
 pub cut_payload-short : (words : List (List ℕ)) (size : ℕ) (text : List ℕ) → length text < size → cut_payload words (Some size) text ≡ None
 cut_payload-short words size text lt =
     let test : nat_le size (length text) ≡ false = grind (arith, nat_tests) in
-    other _ _ _ test
+    cond-false _ _ _ test
 
 pub words_before-more : (end : ℕ) (xs ys : List ℕ) → end ≤ length xs → words_before end (xs ++ ys) ≡ words_before end xs
 words_before-more end xs ys le = ap (λ (l : List ℕ). words_of (without_return l)) (take-append-le end xs ys le)
@@ -148,13 +144,13 @@ pub breaks_long : (a left : List ℕ) → line_end a ≡ None → line_limit < l
 breaks_long a left none long =
     let count : length (a ++ left) ≡ length a + length left = length-append a left in
     let test : nat_lt line_limit (length (a ++ left)) ≡ true = grind (arith, nat_tests) in
-    breaks_whole (a ++ left) 0 (a ++ left) (ap (λ (o : Option ℕ). turn_at o (a ++ left)) (line_end-long a left none long) ∙ chosen _ _ _ test)
+    breaks_whole (a ++ left) 0 (a ++ left) (ap (λ (o : Option ℕ). turn_at o (a ++ left)) (line_end-long a left none long) ∙ cond-true _ _ _ test)
 
 -- a text without a whole line that isn't too long
 pub none_open : (a : List ℕ) → line_end a ≡ None → length a ≤ line_limit → whole_turn a ≡ None
 none_open a none short =
     let test : nat_lt line_limit (length a) ≡ false = grind (arith, nat_tests) in
-    ap (λ (o : Option ℕ). turn_at o a) none ∙ other _ _ _ test
+    ap (λ (o : Option ℕ). turn_at o a) none ∙ cond-false _ _ _ test
 
 pub last_turn-open : (text : List ℕ) (size : Option ℕ) → 0 < length text → line_end text ≡ None → payload_size (words_of text) ≡ size → last_turn text ≡ Some (turn_without_end (words_of text) size)
 last_turn-open [] size some none sized = absurd (omega (arith, some))

@@ -5,8 +5,8 @@ use Rattle.session_text.specs.declared.line.Line.{Line}
 use Rattle.session_text.specs.declared.line.LineFault.{LineFault}
 use Rattle.session_text.specs.declared.line.LineFault.TheVariants.{Bad, NoMemory}
 use Rattle.session_text.specs.declared.seek.Sought.{Sought}
-use Rattle.session_text.specs.declared.seek.Sought.TheVariants as sought
 use Rattle.session_text.specs.declared.payload.Filled.{Filled}
+use Rattle.session_text.specs.declared.seek.Sought.TheVariants as sought
 use Rattle.session_text.specs.declared.payload.Filled.TheVariants as filled
 
 -- what a line of these words asks for, or the index of its bad payload word

@@ -1,7 +1,6 @@
 -- The turns of a session: its text as requests with their payloads.
-use Rattle.std.specs.Prelude.{ℕ, zero, suc, ◌+◌, ◌-◌, nat_lt, nat_le, Bool, ◌==◌, if◌then◌else◌, List, [], ◌∷◌, length, take, drop, codes, Option, Some, None, position, slice_index_or}
+use Rattle.std.specs.Prelude.{ℕ, zero, suc, ◌+◌, ◌-◌, nat_lt, nat_le, Bool, ◌==◌, if◌then◌else◌, List, [], ◌∷◌, length, take, drop, codes, Option, Some, None, position, slice_index_or, option_map}
 use Rattle.std.specs.List.{slice_split, starts_with, ends_with}
-use Rattle.std.specs.Option.{option_map}
 use Rattle.site_types.specs.Limits.{payload_limit}
 use Rattle.site_types.specs.Numbers.{number_up_to}
 
@@ -114,7 +113,3 @@ turns_up_to turn (suc count) text = turns_from (turns_up_to turn count) (turn te
 -- all turns of a text that ends with its source: each takes a byte at least
 abbrev pub turns : List ℕ → List Turn
 turns text = turns_up_to first_turn (length text) text
-
--- all turns of a text behind which the source failed
-abbrev pub whole_turns : List ℕ → List Turn
-whole_turns text = turns_up_to whole_turn (length text) text

@@ -1,6 +1,5 @@
-use Rattle.std.proofs.Common.{min, refl, arith, ◌≡◌, ◌∙◌, ◌≤◌, ◌+◌, ◌++◌, ℕ, List, length, take, drop, ap, sym, subst}
+use Rattle.std.proofs.Common.{min, refl, arith, ◌≡◌, ◌∙◌, ◌≤◌, ◌+◌, ◌++◌, ℕ, List, length, take, drop, ap, sym, subst, append-nil}
 use Rattle.std.proofs.lemmas.Grind.{common_steps}
-use Rattle.std.proofs.lemmas.List.{append-nil}
 use Rattle.session_text.specs.Session.{BreaksAt}
 use Rattle.session_text.specs.Turns.{whole_turn}
 use Rattle.session_text.proofs.Wholes.{whole_held, kept_cut, breaks_cut, none_cut}

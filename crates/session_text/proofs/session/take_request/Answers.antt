@@ -1,5 +1,4 @@
-use Rattle.std.proofs.Common.{◌≡◌, ◌∙◌, ◌++◌, ℕ, List, ap, sym, take}
-use Rattle.std.proofs.lemmas.List.{append-nil}
+use Rattle.std.proofs.Common.{◌≡◌, ◌∙◌, ◌++◌, ℕ, List, ap, sym, take, append-nil}
 use Rattle.session_text.specs.Turns.{payload_size, last_index, words_of, words_before, without_return}
 use Rattle.session_text.proofs.Wholes.{breaks_word}
 use Rattle.session_text.proofs.session.take_request.Goals as goal
