@@ -154,22 +154,15 @@ item_left f last bytes left (behind_end byte more parts is) = omega (arith, ap (
 item_left f last bytes left (in_path tag more parts names breaks) = omega (arith, ap (λ (w : List ℕ). length w) parts, path_left last more left breaks)
 item_left f last bytes left (in_file path more parts ok ends none) = omega arith
 
--- a fault, by the bytes that are left
-abbrev pub IsFaultAt : Format → List ℕ → ℕ → Type 0
-IsFaultAt f bytes left = (left ≤ length bytes) × IsBad f bytes (length bytes - left)
-
-pub has_fault : (f : Format) (bytes : List ℕ) (items : List Item) (rest : List ℕ) (left : ℕ) → HasRead f bytes items rest → item_at f (last_path items) rest ≡ Err left → IsFaultAt f bytes left
-has_fault f bytes items rest left has read =
-    let breaks = MatchResult-at_err (TakesItem f (last_path items) rest) (Breaks f (last_path items) rest) left read (item_law f (last_path items) rest has.rest_fits) in
-    let few : left ≤ length rest = item_left f (last_path items) rest left breaks in
-    let fits : left ≤ length bytes = omega (arith, ap (λ (w : List ℕ). length w) has.parts, length-append (letters_of f) (fronts items ++ rest), length-append (fronts items) rest, few) in
-    (fits, behind_items items rest left has.items_are has.parts breaks (omega (arith, fits)))
-
 abbrev failed : {A : Type 0} → FieldFault → Result A FieldFault
 failed e = Err e
 
 pub item_fault : (f : Format) (bytes : List ℕ) (items : List Item) (rest : List ℕ) (e : FieldFault) (after : List ℕ) → HasRead f bytes items rest → IsRead (failed {A = Option Item} e) (item_at f (last_path items) rest) after → IsFault f bytes e
-item_fault f bytes items rest (Broken left) after has read = has_fault f bytes items rest left has read
+item_fault f bytes items rest (Broken left) after has read =
+    let breaks = MatchResult-at_err (TakesItem f (last_path items) rest) (Breaks f (last_path items) rest) left read (item_law f (last_path items) rest has.rest_fits) in
+    let few : left ≤ length rest = item_left f (last_path items) rest left breaks in
+    let fits : left ≤ length bytes = omega (arith, ap (λ (w : List ℕ). length w) has.parts, length-append (letters_of f) (fronts items ++ rest), length-append (fronts items) rest, few) in
+    (fits, behind_items items rest left has.items_are has.parts breaks (omega (arith, fits)))
 item_fault f bytes items rest NoMemory after has read = tt
 
 -- ---- the last item

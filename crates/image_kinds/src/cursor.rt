@@ -2,6 +2,7 @@
 ghost use Rattle.std.specs.Prelude.{◌≡◌, ◌&&◌, ◌==◌, length, Option, Result, Ok, Err};
 ghost use Rattle.site_types.specs.Fields.{borrowed};
 ghost use Rattle.image_kinds.specs.Streams.{letters_of};
+ghost use Rattle.image_kinds.specs.declared.cursor.FieldFault.TheVariants as fault;
 ghost use Rattle.image_kinds.specs.Fields.{letters_at, path_length_at, path_bytes_at, path_at, content_at, entry_at, end_at, taken_at, kept_at, tagged_at, item_at, IsRead, IsAfter};
 
 use crate::entry::{Entry, Item};
@@ -20,9 +21,6 @@ pub enum FieldFault {
 }
 
 impl From<NoMemory> for FieldFault {
-    ghost use Rattle.std.specs.Prelude.{◌≡◌};
-    ghost use Rattle.image_kinds.specs.declared.cursor.FieldFault.TheVariants as fault;
-
     ghost from_gives = { λ _ e. e ≡ fault.NoMemory };
 
     fn from(_: NoMemory) -> FieldFault {
@@ -31,9 +29,6 @@ impl From<NoMemory> for FieldFault {
 }
 
 impl<T: Drop> From<AllocFailed<T>> for FieldFault {
-    ghost use Rattle.std.specs.Prelude.{◌≡◌};
-    ghost use Rattle.image_kinds.specs.declared.cursor.FieldFault.TheVariants as fault;
-
     ghost from_gives = { λ _ e. e ≡ fault.NoMemory };
 
     fn from(_: AllocFailed<T>) -> FieldFault {
@@ -42,9 +37,6 @@ impl<T: Drop> From<AllocFailed<T>> for FieldFault {
 }
 
 impl From<Ended> for FieldFault {
-    ghost use Rattle.std.specs.Prelude.{◌≡◌};
-    ghost use Rattle.image_kinds.specs.declared.cursor.FieldFault.TheVariants as fault;
-
     ghost from_gives = { λ _ e. e ≡ fault.Broken 0 };
 
     fn from(_: Ended) -> FieldFault {

@@ -1,11 +1,9 @@
 ghost use Rattle.std.specs.Prelude.{◌≡◌, ◌≤◌, ◌-◌, ℕ, List, length, map, IfOk, IfErr, Ok, Err};
 ghost use Rattle.std.specs.List.{filter_map};
-ghost use Rattle.image_kinds.specs.Streams.{taken_of, AreItems, IsStream, IsImage, spelled, spelled_stream, spelled_image, last_path, path_of, IsBad};
+ghost use Rattle.image_kinds.specs.Streams.{taken_of, AreItems, IsStream, IsImage, spelled, spelled_stream, spelled_image, last_path, path_of, IsBad, Entry, Item, Format};
 ghost use Rattle.image_kinds.specs.Decoding.{IsFault, IsStreamFault, IsReadAs};
-ghost use Rattle.image_kinds.specs.declared.entry.Entry.{Entry};
-ghost use Rattle.image_kinds.specs.declared.entry.Item.{Item};
-ghost use Rattle.image_kinds.specs.declared.format.Format.{Format};
 ghost use Rattle.image_kinds.specs.declared.format.Format.TheVariants as format;
+ghost use Rattle.image_kinds.specs.declared.decode.StreamFault.TheVariants as fault;
 
 use crate::cursor::{Cursor, FieldFault};
 use crate::entry::{Entry, Item};
@@ -23,9 +21,6 @@ pub enum StreamFault {
 }
 
 impl From<NoMemory> for StreamFault {
-    ghost use Rattle.std.specs.Prelude.{◌≡◌};
-    ghost use Rattle.image_kinds.specs.declared.decode.StreamFault.TheVariants as fault;
-
     ghost from_gives = { λ _ e. e ≡ fault.NoMemory };
 
     fn from(_: NoMemory) -> StreamFault {
