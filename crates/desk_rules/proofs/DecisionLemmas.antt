@@ -1,29 +1,10 @@
 -- What is decided of what is seen is decided of every state that has that site and those images.
-use Rattle.std.proofs.Common.{◌≡◌, ◌∙◌, ℕ, suc, Bool, true, false, cond, List, [], ◌∷◌, ◌++◌, length, map, Option, Some, None, Result, Ok, Err, sym, ap, refl, subst, arith}
-use Rattle.std.proofs.lemmas.List.{length-map, length-replicate}
-use Rattle.std.specs.Prelude.{unwrap_or, option_map, find, Contains, IfOk}
-use Rattle.std.specs.Option.{option_map_or}
-use Rattle.std.specs.declared.alloc.AllocError.{AllocError}
-use Rattle.site_types.specs.Classes.{RequestClass, site_change, site_file, backup, restore, class_of}
-use Rattle.site_types.specs.declared.answer.Answer.{Answer}
-use Rattle.site_types.specs.declared.answer.Answer.TheVariants.{Done}
+use Rattle.desk_rules.proofs.Common.{◌≡◌, ◌∙◌, ℕ, suc, Bool, true, false, cond, List, [], ◌∷◌, ◌++◌, length, map, Option, Some, None, Result, Ok, Err, sym, ap, refl, subst, arith, unwrap_or, option_map, find, Contains, IfOk, length-map, length-replicate, option_map_or, AllocError, RequestClass, site_change, site_file, backup, restore, class_of, Answer, Done, ImageRecord, Request, adhoc, refusals_of, State, Image, entries, image_named, first_refusal, Asked, asked_of, backup_refusals, client_refusals, policy_asked, Removal, gone_client, gone_policy, is_of_client, is_under, removal_of, setting_refusals, use_refusals, used_by, uses_of, Change, Load, Nothing, SealNow, Decision}
 use Rattle.site_types.specs.declared.id.BackupId.{BackupId}
-use Rattle.site_types.specs.declared.image.ImageRecord.{ImageRecord}
-use Rattle.site_types.specs.declared.request.Request.{Request}
 use Rattle.site_types.specs.declared.schedule.Start.{Start}
 use Rattle.image_catalogue.specs.Images.{first_of_client, first_under, record_named, same_id}
-use Rattle.policy_book.specs.Book.{adhoc}
-use Rattle.policy_book.specs.Requests.{refusals_of}
-use Rattle.desk_model.specs.declared.site.Site.{Site}
-use Rattle.desk_model.specs.State.{State, Image, entries, image_named}
-use Rattle.desk_model.specs.Refusals.{first_refusal}
-use Rattle.desk_model.specs.Backups.{Asked, asked_of, backup_refusals, client_refusals, policy_asked}
-use Rattle.desk_model.specs.Settings.{Removal, gone_client, gone_policy, is_of_client, is_under, removal_of, setting_refusals, use_refusals, used_by, uses_of}
 use Rattle.desk_model.specs.Step.{restore_refusals}
-use Rattle.desk_rules.specs.declared.decision.Change.{Change}
-use Rattle.desk_rules.specs.declared.decision.Change.TheVariants.{Load, Nothing, SealNow}
-use Rattle.desk_rules.specs.declared.decision.Decision.{Decision}
-use Rattle.desk_rules.specs.Decisions.{Decides, DecidesAs, IsChange, IsDecision, IsStateOf, SetsSite, backup_body}
+use Rattle.desk_rules.specs.Decisions.{Decides, DecidesAs, IsChange, IsDecision, IsStateOf, SetsSite, backup_body, Site}
 use Rattle.desk_rules.specs.Refusing.{settled}
 use Rattle.desk_rules.specs.Seen.{backup_answer, blank, room_under, seen}
 use Rattle.desk_rules.proofs.RefusalLemmas.{answered}

@@ -1,27 +1,18 @@
 -- A schedule that isn't due where there is no image isn't due after one.
-use Rattle.std.proofs.Common.{◌≡◌, ◌||◌, ◌&&◌, ℕ, ℤ, List, [], ◌∷◌, Bool, true, false, cond, Option, None, refl, sym, ◌∙◌, ap}
-use Rattle.std.specs.Prelude.{filter}
+use Rattle.desk_rules.proofs.Common.{◌≡◌, ◌||◌, ◌&&◌, ℕ, ℤ, List, [], ◌∷◌, Bool, true, false, cond, Option, None, refl, sym, ◌∙◌, ap, filter, ImageRecord, Schedule, Policy}
 use Rattle.std.specs.List.{list_any}
-use Rattle.site_types.specs.declared.image.ImageRecord.{ImageRecord}
-use Rattle.site_types.specs.declared.schedule.Mode.{Mode}
-use Rattle.site_types.specs.declared.schedule.Mode.TheVariants.{Frequency, Calendar}
-use Rattle.site_types.specs.declared.schedule.Schedule.{Schedule}
 use Rattle.schedule_windows.specs.declared.civil.Civil.{Civil}
 use Rattle.schedule_windows.specs.declared.schedule.Last.{Last}
 use Rattle.schedule_windows.specs.Schedules.{comes_round, is_before, is_due_in, is_due}
 use Rattle.schedule_windows.specs.Weeks.{is_open, opened, spans}
 use Rattle.schedule_windows.specs.Zones.{ZoneOf, civil_at}
-use Rattle.policy_book.specs.Book.{Policy}
-use Rattle.desk_rules.specs.DueBackups.{is_due_for, may_be_due, foremost, line_of, due_of_client, last_in, last_time}
-
-neither : (a b : Bool) → (a || b) ≡ false → (a ≡ false) × (b ≡ false)
-neither true b none = absurd (cc)
-neither false b none = (refl, none)
+use Rattle.desk_rules.specs.DueBackups.{is_due_for, may_be_due, foremost, line_of, due_of_client, last_in, last_time, Mode, Frequency, Calendar}
+use Rattle.std.proofs.lemmas.Bool.{or_parts}
 
 none_then : {X : Type 0} (p q : X → Bool) (xs : List X) → ((x : X) → p x ≡ false → q x ≡ false) → list_any p xs ≡ false → list_any q xs ≡ false
 none_then p q [] gives none = refl
 none_then p q (x ∷ xs) gives none =
-    let both : (p x ≡ false) × (list_any p xs ≡ false) = neither (p x) (list_any p xs) none in
+    let both : (p x ≡ false) × (list_any p xs ≡ false) = or_parts (p x) (list_any p xs) none in
     (λ j. gives x both.0 j || list_any q xs) ∙ none_then p q xs gives both.1
 
 not_both : (a b d : Bool) → (a && b) ≡ false → (b ≡ false → d ≡ false) → (a && d) ≡ false

@@ -1,31 +1,37 @@
--- The foremost of due schedules, of one more.
-use Rattle.std.proofs.Common.{◌≡◌, ◌<◌, ◌+◌, ℕ, List, [], ◌∷◌, ◌++◌, length, take, get_or, Bool, true, false, cond, Option, Some, None, refl, sym, ◌∙◌, ap, arith, append-nil, Bor}
-use Rattle.std.specs.Prelude.{filter, option_map, if◌then◌else◌}
-use Rattle.std.specs.Option.{option_map_or}
+-- What those that pass a test give, and the foremost of due schedules, of one more.
+use Rattle.desk_rules.proofs.Common.{◌≡◌, ◌<◌, ◌+◌, ℕ, List, [], ◌∷◌, ◌++◌, length, take, get_or, Bool, true, false, cond, Option, Some, None, refl, sym, ◌∙◌, ap, arith, append-nil, Bor, filter, option_map, if◌then◌else◌, option_map_or, take_more, filter-append, Schedule, flat_map}
 use Rattle.std.proofs.lemmas.Bool.Decides.{nat_tests}
-use Rattle.std.proofs.lemmas.List.{take_more}
-use Rattle.std.proofs.lemmas.List.Elements.{filter-append}
-use Rattle.site_types.specs.declared.schedule.Mode.{Mode}
-use Rattle.site_types.specs.declared.schedule.Mode.TheVariants.{Frequency, Calendar}
-use Rattle.site_types.specs.declared.schedule.Schedule.{Schedule}
-use Rattle.desk_rules.specs.DueBackups.{mode_before, fore, foremost}
+use Rattle.desk_rules.specs.DueBackups.{mode_before, fore, foremost, Mode, Frequency, Calendar}
+use Rattle.std.proofs.lemmas.List.Concat.{flat_map-append}
+
+-- those that pass a test, of one element more
+filter_more : {X : Type 0} (P : X → Bool) (xs : List X) (i : ℕ) (x : X) → i < length xs → x ≡ get_or xs i x → filter P (take (i + 1) xs) ≡ filter P (take i xs) ++ filter P (x ∷ [])
+filter_more {X} P xs i x lt is = ap (filter P) (take_more xs i x lt ∙ ap (λ (y : X). take i xs ++ y ∷ []) (sym is)) ∙ filter-append P (take i xs) (x ∷ [])
+
+pub one_added : {X A : Type 0} (P : X → Bool) (f : X → List A) (xs : List X) (i : ℕ) (x : X) → i < length xs → x ≡ get_or xs i x
+    → (before after : List A) → before ≡ flat_map f (filter P (take i xs)) → after ≡ before ++ (if P x then f x else []) → after ≡ flat_map f (filter P (take (i + 1) xs))
+one_added {A = A} P f xs i x lt is before after before_is after_is =
+    after_is
+    ∙ ap (λ (l : List A). l ++ (if P x then f x else [])) before_is
+    ∙ ap (λ (l : List A). flat_map f (filter P (take i xs)) ++ l) (sym (of_one (P x)))
+    ∙ sym (ap (flat_map f) (filter_more P xs i x lt is) ∙ flat_map-append f (filter P (take i xs)) (filter P (x ∷ [])))
+  where
+    of_one : (b : Bool) → flat_map f (cond b (x ∷ []) []) ≡ (if b then f x else [])
+    of_one true = append-nil (f x)
+    of_one false = refl
+
+-- Schedules.
 
 before_both : (a b d : Mode) → mode_before a b ≡ true → mode_before b d ≡ true → mode_before a d ≡ true
-before_both (Calendar x) (Calendar y) d first second = absurd (cc)
-before_both (Calendar x) (Frequency m) (Calendar z) first second = absurd (cc)
-before_both (Calendar x) (Frequency m) (Frequency n) first second = refl
-before_both (Frequency l) (Calendar y) d first second = absurd (cc)
-before_both (Frequency l) (Frequency m) (Calendar z) first second = absurd (cc)
 before_both (Frequency l) (Frequency m) (Frequency n) first second = grind (arith, nat_tests)
+before_both (Calendar x) (Frequency m) (Frequency n) first second = refl
+before_both a b d first second = absurd (cc)
 
 behind_both : (a b d : Mode) → mode_before a b ≡ false → mode_before b d ≡ false → mode_before a d ≡ false
-behind_both (Calendar x) (Calendar y) (Calendar z) first second = refl
-behind_both (Calendar x) (Calendar y) (Frequency n) first second = absurd (cc)
-behind_both (Calendar x) (Frequency m) d first second = absurd (cc)
-behind_both (Frequency l) (Calendar y) (Calendar z) first second = refl
-behind_both (Frequency l) (Calendar y) (Frequency n) first second = absurd (cc)
-behind_both (Frequency l) (Frequency m) (Calendar z) first second = refl
 behind_both (Frequency l) (Frequency m) (Frequency n) first second = grind (arith, nat_tests)
+behind_both (Calendar x) b (Calendar z) first second = refl
+behind_both (Frequency l) b (Calendar z) first second = refl
+behind_both a b d first second = absurd (cc)
 
 goes : (s t : Schedule) → mode_before t.mode s.mode ≡ true → fore s t ≡ t
 goes s t before = λ j. if before j then t else s
@@ -59,19 +65,16 @@ read_next None next = refl
 read_next (Some s) next = refl
 
 module _ (P : Schedule → Bool) (ss : List Schedule) (i : ℕ) (s : Schedule) (lt : i < length ss) (is : s ≡ get_or ss i s) where
-  one_more : filter P (take (i + 1) ss) ≡ filter P (take i ss) ++ filter P (s ∷ [])
-  one_more = ap (filter P) (take_more ss i s lt ∙ ap (λ (t : Schedule). take i ss ++ t ∷ []) (sym is)) ∙ filter-append P (take i ss) (s ∷ [])
-
   pub foremost_due : (found : Option (Bor Schedule)) (after : Bor Schedule) → P s ≡ true → option_map (λ (t : Bor Schedule). t.now) found ≡ foremost (filter P (take i ss)) → after.now ≡ option_map_or (λ (t : Bor Schedule). fore t.now s) found s → Some after.now ≡ foremost (filter P (take (i + 1) ss))
   foremost_due found after due before is_after =
       ap (λ (t : Schedule). Some t) (is_after ∙ read_next found s ∙ ap (λ (o : Option Schedule). fore_next o s) before)
       ∙ sym (foremost_push (filter P (take i ss)) s)
       ∙ (λ j. foremost (filter P (take i ss) ++ cond (sym due j) (s ∷ []) []))
-      ∙ ap foremost (sym one_more)
+      ∙ ap foremost (sym (filter_more P ss i s lt is))
 
   pub foremost_passed : (found : Option Schedule) → P s ≡ false → found ≡ foremost (filter P (take i ss)) → found ≡ foremost (filter P (take (i + 1) ss))
   foremost_passed found other before =
       before
       ∙ ap foremost (sym (append-nil (filter P (take i ss))))
       ∙ (λ j. foremost (filter P (take i ss) ++ cond (sym other j) (s ∷ []) []))
-      ∙ ap foremost (sym one_more)
+      ∙ ap foremost (sym (filter_more P ss i s lt is))

@@ -1,12 +1,7 @@
 -- The last time of images: of one image more, and that it is no later than they are.
-use Rattle.std.proofs.Common.{◌≡◌, ◌≤◌, ◌&&◌, ℕ, List, [], ◌∷◌, ◌++◌, map, max, Bool, true, false, cond, Option, Some, None, refl, sym, ◌∙◌, ap, arith, bytes_eq, append-nil}
-use Rattle.std.specs.Prelude.{filter, IfSome}
-use Rattle.std.specs.Option.{option_map_or}
-use Rattle.std.proofs.lemmas.List.{map-append}
-use Rattle.std.proofs.lemmas.List.Elements.{filter-append}
+use Rattle.desk_rules.proofs.Common.{◌≡◌, ◌≤◌, ◌&&◌, ℕ, List, [], ◌∷◌, ◌++◌, map, max, Bool, true, false, cond, Option, Some, None, refl, sym, ◌∙◌, ap, arith, bytes_eq, append-nil, filter, IfSome, option_map_or, map-append, filter-append, ImageRecord}
 use Rattle.std.proofs.lemmas.Slice.Eq.{bytes_eq-Decides}
 use Rattle.site_types.specs.Limits.{last_moment}
-use Rattle.site_types.specs.declared.image.ImageRecord.{ImageRecord}
 use Rattle.desk_rules.specs.DueBackups.{is_of, latest, last_time, AllInTime}
 
 -- the greatest of some times, where one may have none so far

@@ -1,6 +1,6 @@
+pub mod Common
 pub mod LastTimeLemmas
 pub mod ForemostLemmas
-pub mod FilterLemmas
 pub mod DueLemmas
 pub mod RefusalLemmas
 pub mod SeenLemmas

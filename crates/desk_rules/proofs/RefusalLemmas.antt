@@ -1,19 +1,9 @@
 -- The first refusal of a list.
-use Rattle.std.proofs.Common.{◌≡◌, ◌∙◌, Bool, true, false, List, [], ◌∷◌, ◌++◌, Option, Some, None, Result, Ok, Err, map, sym, ap, refl, subst, inl, inr}
-use Rattle.std.specs.Prelude.{◌⊎◌, option_map, IfOk, IsErrAnd}
-use Rattle.std.specs.declared.alloc.AllocError.{AllocError}
-use Rattle.site_types.specs.declared.answer.Answer.{Answer}
+use Rattle.desk_rules.proofs.Common.{◌≡◌, ◌∙◌, Bool, true, false, List, [], ◌∷◌, ◌++◌, Option, Some, None, Result, Ok, Err, map, sym, ap, refl, subst, inl, inr, ◌⊎◌, option_map, IfOk, IsErrAnd, AllocError, Answer, first_refusal, refusal_answer, Change, Nothing, Decision}
 use Rattle.policy_book.specs.declared.fault.BookFault.{BookFault}
-use Rattle.policy_book.specs.declared.fault.BookFault.TheVariants as fault
 use Rattle.policy_book.specs.Refusals.{Allows, first_refusal as book_refusal}
-use Rattle.desk_model.specs.Refusals.{first_refusal}
-use Rattle.desk_model.specs.Settings.{refusal_answer}
-use Rattle.desk_rules.specs.declared.refusal.Refusal.{Refusal}
-use Rattle.desk_rules.specs.declared.refusal.Refusal.TheVariants.{Answered, NoMemory}
-use Rattle.desk_rules.specs.declared.decision.Change.{Change}
-use Rattle.desk_rules.specs.declared.decision.Change.TheVariants.{Nothing}
-use Rattle.desk_rules.specs.declared.decision.Decision.{Decision}
-use Rattle.desk_rules.specs.Refusing.{Passes, refusal_by, settled}
+use Rattle.desk_rules.specs.Refusing.{Passes, refusal_by, settled, Refusal, Answered, NoMemory}
+use Rattle.policy_book.specs.declared.fault.BookFault.TheVariants as fault
 
 -- what refuses before something refuses before it and what comes behind
 first_behind : (xs ys : List (Bool × Answer)) → first_refusal xs ≡ None → first_refusal (xs ++ ys) ≡ first_refusal ys
@@ -92,7 +82,3 @@ book_refuses refusals f (Err r) allows is = record {
     ]
   ];
 }
-
--- and so is that it has none
-pub book_allows : {A B : Type 0} (refusals : List (Bool × BookFault)) (x : A) (y : B) → Allows {A = B} refusals (Ok y) → Passes (answered refusals) (Ok x)
-book_allows refusals x y allows = record { passed = first_answered refusals ∙ ap (option_map refusal_answer) allows.allowed; refused = tt }

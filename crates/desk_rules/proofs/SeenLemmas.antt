@@ -1,28 +1,12 @@
 -- What is seen of a state.
-use Rattle.std.proofs.Common.{◌≡◌, ◌∙◌, List, [], ◌∷◌, ◌++◌, Option, None, Some, map, sym, ap, refl, ℕ}
-use Rattle.std.specs.Prelude.{unwrap_or, codes}
-use Rattle.std.specs.Option.{option_map_or}
+use Rattle.desk_rules.proofs.Common.{◌≡◌, ◌∙◌, List, [], ◌∷◌, ◌++◌, Option, None, Some, map, sym, ap, refl, ℕ, unwrap_or, codes, option_map_or, Answer, Done, Schedule, SealNow, ImageRecord, Request, State, entries, gone_client, gone_policy, removal_of, use_refusals, used_by, uses_of, Policy, adhoc, manual, Asked, backup_refusals, client_refusals, latest_version, new_time, policy_asked, schedule_asked, first_refusal}
 use Rattle.site_types.specs.Ids.{id_text}
 use Rattle.site_types.specs.declared.id.BackupId.{BackupId}
-use Rattle.site_types.specs.declared.answer.Answer.{Answer}
-use Rattle.site_types.specs.declared.answer.Answer.TheVariants.{Done}
-use Rattle.site_types.specs.declared.schedule.Schedule.{Schedule}
-use Rattle.site_types.specs.declared.image.Base.TheVariants as base
-use Rattle.desk_rules.specs.declared.decision.Change.TheVariants.{SealNow}
-use Rattle.desk_rules.specs.declared.decision.JobBody.{JobBody}
-use Rattle.desk_rules.specs.declared.decision.JobBody.TheVariants.{Backup}
-use Rattle.site_types.specs.declared.image.ImageRecord.{ImageRecord}
-use Rattle.site_types.specs.declared.request.Request.{Request}
 use Rattle.image_catalogue.specs.Images.{first_of_client, first_under}
-use Rattle.desk_model.specs.declared.site.Site.{Site}
-use Rattle.desk_model.specs.State.{State, entries}
-use Rattle.desk_model.specs.Settings.{Removal, gone_client, gone_policy, removal_of, use_refusals, used_by, uses_of}
-use Rattle.policy_book.specs.Book.{Policy, adhoc, manual}
-use Rattle.desk_model.specs.Backups.{Asked, backup_refusals, client_refusals, latest_version, new_time, policy_asked, schedule_asked}
-use Rattle.desk_model.specs.Refusals.{first_refusal}
-use Rattle.desk_rules.specs.Decisions.{backup_body}
+use Rattle.desk_rules.specs.Decisions.{backup_body, JobBody, Backup, Site}
 use Rattle.desk_rules.specs.Refusing.{settled}
 use Rattle.desk_rules.specs.Seen.{backup_answer, blank, room_under, seen}
+use Rattle.site_types.specs.declared.image.Base.TheVariants as base
 
 pub entries_seen : (images : List ImageRecord) → entries (map blank images) ≡ images
 entries_seen [] = refl
@@ -39,9 +23,6 @@ policy_use site images request name found is first =
     (λ j. option_map_or (λ removal. uses_of removal (seen site images)) (is j) [])
     ∙ ap (λ (is : List ImageRecord). used_by name (first_under name is) None) (entries_seen images)
     ∙ ap (λ (i : Option ImageRecord). used_by name i None) (sym first)
-
-pub no_use : (site : Site) (images : List ImageRecord) (request : Request) → removal_of request ≡ None → use_refusals request (seen site images) ≡ []
-no_use site images request is = λ j. option_map_or (λ removal. uses_of removal (seen site images)) (is j) []
 
 -- the refusals of a backup under its policy
 pub backup_seen : (site : Site) (images : List ImageRecord) (asked : Asked) (policy : Policy) (moment : ℕ) → policy_asked asked (seen site images) ≡ Some policy

@@ -1,8 +1,6 @@
 -- A request that was read sets a zone that there is.
-use Rattle.std.proofs.Common.{◌≡◌, ℕ, ◌+◌, ◌*◌, ◌≤◌, zero, suc, ℤ, pos, negsuc, neg_ℤ, unsigned_abs, List, [], ◌∷◌, length, drop, Bool, true, false, Option, Some, None, Ok, refl, sym, ap, ◌∙◌, subst, arith, codes}
-use Rattle.std.specs.Prelude.{◌&&◌, ◌==◌, if◌then◌else◌, nat_le, nat_lt, is_some, unwrap_or}
+use Rattle.desk_rules.proofs.Common.{◌≡◌, ℕ, ◌+◌, ◌*◌, ◌≤◌, zero, suc, ℤ, pos, negsuc, neg_ℤ, unsigned_abs, List, [], ◌∷◌, length, drop, Bool, true, false, Option, Some, None, Ok, refl, sym, ap, ◌∙◌, subst, arith, codes, ◌&&◌, ◌==◌, if◌then◌else◌, nat_le, nat_lt, is_some, unwrap_or, IsAscii, Request, zone_asked}
 use Rattle.std.specs.List.{slice_index, slice_range, slice_split, join_with_byte}
-use Rattle.std.specs.Str.{IsAscii}
 use Rattle.std.proofs.lemmas.Bool.{and_parts, ltb-true, leb-true}
 use Rattle.std.proofs.lemmas.Str.{IsUtf8-from_ascii}
 use Rattle.jiff_core.specs.Calendar.{IsWithin}
@@ -14,14 +12,12 @@ use Rattle.site_types.specs.Keys.{Key, first_bad, is_word_byte, is_word, value_a
 use Rattle.site_types.specs.Lines.{is_space, words_with, fields_of, IsFormed}
 use Rattle.site_types.specs.Requests.{read_words}
 use Rattle.site_types.specs.ZoneWords.{seconds_of, signed, offset_of, rule_of}
-use Rattle.site_types.specs.declared.request.Request.{Request}
-use Rattle.site_types.specs.declared.request.Request.TheVariants as request
 use Rattle.site_types.proofs.FormLemmas.{AreAllowed, are_allowed}
 use Rattle.site_types.proofs.OptionLemmas.{guarded, chained, same_value}
 use Rattle.site_types.proofs.RereadLemmas.{read_parts}
 use Rattle.site_types.proofs.Rereading.{chosen}
-use Rattle.desk_model.specs.Settings.{zone_asked}
 use Rattle.desk_rules.specs.Zoned.{IsRule, IsZone}
+use Rattle.site_types.specs.declared.request.Request.TheVariants as request
 
 -- A word of printed characters is text.
 

@@ -1,23 +1,23 @@
 -- What a request is answered and what it changes, up to what bytes decide.
 use Rattle.std.specs.Prelude.{◌≡◌, ℕ, List, [], length, Option, Some, None, unwrap_or, Contains}
 use Rattle.site_types.specs.Classes.{RequestClass, site_change, site_file, backup, restore, class_of}
-use Rattle.site_types.specs.declared.answer.Answer.{Answer}
-use Rattle.site_types.specs.declared.answer.Answer.TheVariants.{Done}
-use Rattle.site_types.specs.declared.image.ImageRecord.{ImageRecord}
-use Rattle.site_types.specs.declared.image.Base.TheVariants as base
-use Rattle.site_types.specs.declared.request.Request.{Request}
+pub use Rattle.site_types.specs.declared.answer.Answer.{Answer}
+pub use Rattle.site_types.specs.declared.answer.Answer.TheVariants.{Done}
+pub use Rattle.site_types.specs.declared.image.ImageRecord.{ImageRecord}
+pub use Rattle.site_types.specs.declared.request.Request.{Request}
 use Rattle.policy_book.specs.Book.{adhoc, manual}
-use Rattle.desk_model.specs.declared.site.Site.{Site}
+pub use Rattle.desk_model.specs.declared.site.Site.{Site}
 use Rattle.desk_model.specs.State.{State, Image, entries}
 use Rattle.desk_model.specs.Refusals.{first_refusal}
 use Rattle.desk_model.specs.Backups.{Asked, asked_of, latest_version, new_time, policy_asked, schedule_asked}
 use Rattle.desk_model.specs.Step.{case_of}
-use Rattle.desk_rules.specs.declared.decision.JobBody.{JobBody}
-use Rattle.desk_rules.specs.declared.decision.JobBody.TheVariants.{Backup}
-use Rattle.desk_rules.specs.declared.decision.Change.{Change}
-use Rattle.desk_rules.specs.declared.decision.Change.TheVariants.{Nothing, Settings, Load, SealNow}
-use Rattle.desk_rules.specs.declared.decision.Decision.{Decision}
+pub use Rattle.desk_rules.specs.declared.decision.JobBody.{JobBody}
+pub use Rattle.desk_rules.specs.declared.decision.JobBody.TheVariants.{Backup}
+pub use Rattle.desk_rules.specs.declared.decision.Change.{Change}
+pub use Rattle.desk_rules.specs.declared.decision.Change.TheVariants.{Nothing, Settings, Load, SealNow}
+pub use Rattle.desk_rules.specs.declared.decision.Decision.{Decision}
 use Rattle.desk_rules.specs.SiteChanges.{IsSiteChange}
+use Rattle.site_types.specs.declared.image.Base.TheVariants as base
 
 -- the state has this site and these images, each with as many bytes as the catalogue says, and no open jobs
 pub record IsStateOf (site : Site) (images : List ImageRecord) (s : State) : Type 0 where

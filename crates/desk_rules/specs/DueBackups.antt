@@ -1,18 +1,15 @@
 -- The backups that are due at a moment: for each policy and client the schedule under which one is to be made.
-use Rattle.std.specs.Prelude.{ℕ, ◌≤◌, Bool, true, false, ◌&&◌, nat_lt, if◌then◌else◌, List, [], ◌∷◌, map, filter, Option, Some, None, option_map, max}
-use Rattle.std.specs.List.{flat_map}
+use Rattle.std.specs.Prelude.{ℕ, ◌≤◌, Bool, true, false, ◌&&◌, nat_lt, if◌then◌else◌, List, [], ◌∷◌, map, filter, Option, Some, None, option_map, max, flat_map, bytes_eq}
 use Rattle.std.specs.Option.{option_map_or}
-use Rattle.std.specs.Str.{bytes_eq}
 use Rattle.site_types.specs.Limits.{last_moment}
-use Rattle.site_types.specs.declared.image.ImageRecord.{ImageRecord}
-use Rattle.site_types.specs.declared.schedule.Mode.{Mode}
-use Rattle.site_types.specs.declared.schedule.Mode.TheVariants.{Frequency, Calendar}
-use Rattle.site_types.specs.declared.schedule.Schedule.{Schedule}
+use Rattle.desk_rules.specs.Decisions.{ImageRecord, Site}
+pub use Rattle.site_types.specs.declared.schedule.Mode.{Mode}
+pub use Rattle.site_types.specs.declared.schedule.Mode.TheVariants.{Frequency, Calendar}
+pub use Rattle.site_types.specs.declared.schedule.Schedule.{Schedule}
 use Rattle.schedule_windows.specs.Zones.{ZoneOf, civil_at}
 use Rattle.schedule_windows.specs.Schedules.{is_due}
 use Rattle.schedule_windows.specs.declared.schedule.Last.{Last}
 use Rattle.policy_book.specs.Book.{Policy}
-use Rattle.desk_model.specs.declared.site.Site.{Site}
 use Rattle.site_types.specs.declared.due.DueBackup.{DueBackup}
 
 -- the image was made under this policy and schedule for this client

@@ -1,7 +1,6 @@
 -- The last times of images, by the names of their policy, client and schedule.
-use Rattle.std.specs.Prelude.{◌≡◌, ℕ, ◌&&◌, List}
+use Rattle.std.specs.Prelude.{◌≡◌, ℕ, ◌&&◌, List, bytes_eq}
 use Rattle.std.specs.HashMap.{HashMap, get_by}
-use Rattle.std.specs.Str.{bytes_eq}
 use Rattle.site_types.specs.declared.image.ImageRecord.{ImageRecord}
 use Rattle.desk_rules.specs.declared.last_times.Key.{Key}
 use Rattle.desk_rules.specs.DueBackups.{last_time}

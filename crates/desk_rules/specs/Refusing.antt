@@ -1,15 +1,12 @@
 -- How the refusals of a request are looked for, and what is decided then.
 use Rattle.std.specs.Prelude.{◌≡◌, ◌⊎◌, Bool, List, Option, Some, None, Result, OnOk, IfErr, option_map}
-use Rattle.site_types.specs.declared.answer.Answer.{Answer}
+use Rattle.desk_rules.specs.Decisions.{Answer, Change, Nothing, Decision}
 use Rattle.policy_book.specs.declared.fault.BookFault.{BookFault}
-use Rattle.policy_book.specs.declared.fault.BookFault.TheVariants as fault
 use Rattle.desk_model.specs.Refusals.{first_refusal}
 use Rattle.desk_model.specs.Settings.{refusal_answer}
-use Rattle.desk_rules.specs.declared.decision.Change.{Change}
-use Rattle.desk_rules.specs.declared.decision.Change.TheVariants.{Nothing}
-use Rattle.desk_rules.specs.declared.decision.Decision.{Decision}
-use Rattle.desk_rules.specs.declared.refusal.Refusal.{Refusal}
-use Rattle.desk_rules.specs.declared.refusal.Refusal.TheVariants.{Answered, NoMemory}
+pub use Rattle.desk_rules.specs.declared.refusal.Refusal.{Refusal}
+pub use Rattle.desk_rules.specs.declared.refusal.Refusal.TheVariants.{Answered, NoMemory}
+use Rattle.policy_book.specs.declared.fault.BookFault.TheVariants as fault
 
 -- nothing refuses, or this is the first refusal, or there was no memory to say so
 pub record Passes {A : Type 0} (refusals : List (Bool × Answer)) (result : Result A Refusal) : Type 0 where

@@ -1,12 +1,9 @@
 -- What a decision sees of a state: its site and what the catalogue has of its images.
 use Rattle.std.specs.Prelude.{ℕ, ◌++◌, Bool, List, [], map, codes, replicate}
 use Rattle.site_types.specs.Ids.{id_text}
-use Rattle.site_types.specs.declared.answer.Answer.{Answer}
-use Rattle.site_types.specs.declared.answer.Answer.TheVariants.{Done}
-use Rattle.site_types.specs.declared.image.ImageRecord.{ImageRecord}
+use Rattle.desk_rules.specs.Decisions.{Answer, Done, ImageRecord, Site}
 use Rattle.image_catalogue.specs.Images.{used}
 use Rattle.policy_book.specs.Book.{Policy}
-use Rattle.desk_model.specs.declared.site.Site.{Site}
 use Rattle.desk_model.specs.Backups.{Asked, backup_unit, new_time, room_refusals, schedule_chosen, unit_at}
 use Rattle.desk_model.specs.State.{State, Image}
 

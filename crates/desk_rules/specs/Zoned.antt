@@ -1,7 +1,6 @@
 -- Zones that requests set.
 use Rattle.std.proofs.Common.{Bor}
-use Rattle.std.specs.Option.{option_copied}
-use Rattle.std.specs.Prelude.{ℤ, List, ℕ, Option, Some, None, IsSome, IsUtf8}
+use Rattle.std.specs.Prelude.{option_copied, ℤ, List, ℕ, Option, Some, None, IsSome, IsUtf8}
 use Rattle.jiff_core.specs.Calendar.{IsWithin}
 use Rattle.jiff_tz.specs.PosixReader.{read_whole}
 

@@ -1,8 +1,4 @@
-use Rattle.std.proofs.Common.{rules}
-use Rattle.std.specs.Prelude.{unwrap_or}
-use Rattle.policy_book.specs.Book.{adhoc}
-use Rattle.desk_model.specs.Backups.{client_refusals, policy_asked}
-use Rattle.desk_model.specs.State.{entries}
+use Rattle.desk_rules.proofs.Common.{rules, unwrap_or, adhoc, client_refusals, policy_asked, entries}
 use Rattle.desk_rules.specs.Asking.{asked_by}
 use Rattle.desk_rules.specs.Seen.{room_under, seen}
 use Rattle.desk_rules.proofs.RefusalLemmas.{both_pass, passes_after, passes_as, passes_before}

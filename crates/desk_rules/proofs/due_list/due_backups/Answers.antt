@@ -1,9 +1,6 @@
-use Rattle.std.proofs.Common.{[], ◌++◌, ◌∙◌, ap, List}
-use Rattle.std.specs.Prelude.{if◌then◌else◌}
-use Rattle.policy_book.specs.Book.{Policy}
-use Rattle.site_types.specs.declared.image.ImageRecord.{ImageRecord}
+use Rattle.desk_rules.proofs.Common.{[], ◌++◌, ◌∙◌, ap, List, if◌then◌else◌, Policy, ImageRecord}
 use Rattle.desk_rules.specs.DueBackups.{due_of_policy}
-use Rattle.desk_rules.proofs.FilterLemmas.{one_added}
+use Rattle.desk_rules.proofs.ForemostLemmas.{one_added}
 use Rattle.desk_rules.proofs.due_list.due_backups.Goals as goal
 
 pub loop-policy-preserved : goal.loop-policy-preserved

@@ -1,6 +1,4 @@
-use Rattle.std.proofs.Common.{◌≡◌, take}
-use Rattle.std.specs.Prelude.{filter}
-use Rattle.std.specs.List.{flat_map}
+use Rattle.std.proofs.Common.{◌≡◌, take, filter, flat_map}
 use Rattle.desk_rules.specs.DueBackups.{due_of_policy}
 use Rattle.desk_rules.proofs.due_list.due_backups.Given as goal
 

@@ -1,11 +1,9 @@
-use Rattle.std.proofs.Common.{◌≡◌, ◌<◌, ◌∙◌, sym, ap, List, length, map, get_or, Bor}
-use Rattle.std.proofs.lemmas.List.{get_or-map, length-map}
-use Rattle.site_types.specs.declared.schedule.Schedule.{Schedule}
+use Rattle.desk_rules.proofs.Common.{◌≡◌, ◌<◌, ◌∙◌, sym, ap, List, length, map, get_or, Bor, get_or-map, length-map, Schedule}
 use Rattle.desk_rules.specs.DueBackups.{is_due_for}
 use Rattle.desk_rules.proofs.ForemostLemmas.{foremost_passed}
+use Rattle.desk_rules.proofs.due_list.foremost_due.Goals.{then-branch, else-branch}
 use Rattle.desk_rules.proofs.ForemostLemmas as lemmas
 use Rattle.desk_rules.proofs.due_list.foremost_due.Goals as goal
-use Rattle.desk_rules.proofs.due_list.foremost_due.Goals.{then-branch, else-branch}
 
 pub loop-schedule-preserved : goal.loop-schedule-preserved
 loop-schedule-preserved c =

@@ -1,5 +1,4 @@
-use Rattle.std.proofs.Common.{◌≡◌, map, take}
-use Rattle.std.specs.Prelude.{filter, option_map}
+use Rattle.std.proofs.Common.{◌≡◌, map, take, filter, option_map}
 use Rattle.desk_rules.specs.DueBackups.{is_due_for, foremost}
 use Rattle.desk_rules.proofs.due_list.foremost_due.Given as goal
 

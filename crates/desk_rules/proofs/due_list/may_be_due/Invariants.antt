@@ -1,5 +1,4 @@
-use Rattle.std.proofs.Common.{◌≡◌, map, take}
-use Rattle.std.specs.Prelude.{filter}
+use Rattle.std.proofs.Common.{◌≡◌, map, take, filter}
 use Rattle.desk_rules.specs.DueBackups.{may_be_due}
 use Rattle.desk_rules.proofs.due_list.may_be_due.Given as goal
 

@@ -1,6 +1,5 @@
-use Rattle.std.proofs.Common.{◌≡◌, ◌++◌, ◌∙◌, ap, arith, List, map, Bor}
+use Rattle.desk_rules.proofs.Common.{◌≡◌, ◌++◌, ◌∙◌, ap, arith, List, map, Bor, Schedule}
 use Rattle.std.proofs.lemmas.Grind.{common_steps}
-use Rattle.site_types.specs.declared.schedule.Schedule.{Schedule}
 use Rattle.site_types.specs.declared.due.DueBackup.{DueBackup}
 use Rattle.desk_rules.specs.DueBackups.{due_of_client}
 use Rattle.desk_rules.proofs.DueLemmas.{line_of_possible}

@@ -1,5 +1,4 @@
-use Rattle.std.proofs.Common.{◌≡◌, ◌++◌, take}
-use Rattle.std.specs.List.{flat_map}
+use Rattle.std.proofs.Common.{◌≡◌, ◌++◌, take, flat_map}
 use Rattle.desk_rules.specs.DueBackups.{due_of_client}
 use Rattle.desk_rules.proofs.due_list.push_policy.Given as goal
 

@@ -1,7 +1,4 @@
-use Rattle.std.proofs.Common.{◌≡◌, ◌+◌, ◌∷◌, [], ◌++◌, ◌∙◌, ap, sym, take, max, List, Option, ℕ}
-use Rattle.std.specs.Option.{option_map_or}
-use Rattle.std.proofs.lemmas.List.{take_more}
-use Rattle.site_types.specs.declared.image.ImageRecord.{ImageRecord}
+use Rattle.desk_rules.proofs.Common.{◌≡◌, ◌+◌, ◌∷◌, [], ◌++◌, ◌∙◌, ap, sym, take, max, List, Option, ℕ, option_map_or, take_more, ImageRecord}
 use Rattle.desk_rules.specs.DueBackups.{last_time}
 use Rattle.desk_rules.specs.declared.last_times.Key.{Key}
 use Rattle.desk_rules.proofs.LastTimeLemmas.{last_time_one_more}

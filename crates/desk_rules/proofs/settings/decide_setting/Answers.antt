@@ -1,7 +1,4 @@
-use Rattle.std.proofs.Common.{[], ap}
-use Rattle.site_types.specs.declared.answer.Answer.TheVariants.{Done}
-use Rattle.desk_model.specs.Refusals.{first_refusal}
-use Rattle.desk_model.specs.Settings.{setting_refusals}
+use Rattle.desk_rules.proofs.Common.{[], Done, first_refusal, setting_refusals}
 use Rattle.desk_rules.specs.Decisions.{SetsSite}
 use Rattle.desk_rules.specs.Seen.{seen}
 use Rattle.desk_rules.proofs.SiteChangeLemmas.{made_decides, refused_decides}

@@ -1,6 +1,4 @@
-use Rattle.std.proofs.Common.{rules}
-use Rattle.policy_book.specs.Requests.{refusals_of}
-use Rattle.desk_model.specs.Settings.{use_refusals}
+use Rattle.desk_rules.proofs.Common.{rules, refusals_of, use_refusals}
 use Rattle.desk_rules.specs.Seen.{seen}
 use Rattle.desk_rules.proofs.RefusalLemmas.{answered, both_pass, passes_after, passes_before}
 use Rattle.desk_rules.proofs.settings.stage.Goals as goal

@@ -1,4 +1,4 @@
-use Rattle.policy_book.specs.Requests.{refusals_of}
+use Rattle.desk_rules.proofs.Common.{refusals_of}
 use Rattle.desk_rules.proofs.RefusalLemmas.{book_refuses}
 use Rattle.desk_rules.proofs.settings.stage_change.Goals as goal
 
