@@ -3,12 +3,9 @@ use Rattle.std.proofs.Common.{◌≡◌, ◌≤◌, ◌+◌, ℕ, List, Bool, �
 use Rattle.std.specs.BTreeMap.{insert_entry}
 use Rattle.std.specs.Map.{values_of, lookup, remove_entry}
 use Rattle.std.proofs.Math.Seq.{take-append_seam}
-use Rattle.site_types.specs.declared.id.BackupId.{BackupId}
-use Rattle.site_types.specs.declared.image.ImageRecord.{ImageRecord}
-use Rattle.image_catalogue.specs.declared.unit_bytes.UnitBytes.{UnitBytes}
-use Rattle.image_catalogue.specs.Counts.{recorded, Counts}
+use Rattle.image_catalogue.specs.Counts.{recorded, Counts, UnitBytes}
 use Rattle.image_catalogue.specs.Entries.{KeysAreIds}
-use Rattle.image_catalogue.specs.Images.{record_named, with_record, without_record, bytes_on, used}
+use Rattle.image_catalogue.specs.Images.{record_named, with_record, without_record, bytes_on, used, BackupId, ImageRecord}
 use Rattle.image_catalogue.proofs.ImageLemmas.{used_with}
 use Rattle.image_catalogue.proofs.EntryLemmas.{id_cmp, at_id, inserted, kept_with, removed, kept_without, used_without}
 

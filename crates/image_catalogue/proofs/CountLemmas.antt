@@ -1,14 +1,10 @@
 -- The bytes on each unit.
-use Rattle.std.proofs.Common.{◌≡◌, ◌<◌, ◌≤◌, ◌+◌, ◌-◌, ℕ, zero, suc, List, [], ◌∷◌, ◌++◌, length, get_or, set, take, add-one, Bool, true, false, cond, Option, Some, refl, sym, ◌∙◌, ap, subst, arith}
-use Rattle.std.specs.Str.{bytes_eq}
-use Rattle.std.specs.Option.{SomeIff}
+use Rattle.std.proofs.Common.{◌≡◌, ◌<◌, ◌≤◌, ◌+◌, ◌-◌, ℕ, zero, suc, List, [], ◌∷◌, ◌++◌, length, get_or, set, take, add-one, Bool, true, false, cond, Option, Some, refl, sym, ◌∙◌, ap, subst, arith, bytes_eq, SomeIff}
 use Rattle.std.proofs.lemmas.List.{get_or_default}
 use Rattle.std.proofs.lemmas.Bool.{false≢true}
 use Rattle.std.proofs.lemmas.Slice.Eq.{bytes_eq-Decides}
-use Rattle.site_types.specs.declared.image.CopyRecord.{CopyRecord}
-use Rattle.image_catalogue.specs.declared.unit_bytes.UnitBytes.{UnitBytes}
-use Rattle.image_catalogue.specs.Images.{bytes_on}
-use Rattle.image_catalogue.specs.Counts.{recorded, NoneBefore, IsFirst}
+use Rattle.image_catalogue.specs.Images.{bytes_on, CopyRecord}
+use Rattle.image_catalogue.specs.Counts.{recorded, NoneBefore, IsFirst, UnitBytes}
 
 same_unit : (a b : List ℕ) → bytes_eq a b ≡ true → a ≡ b
 same_unit a b same = (bytes_eq-Decides a b).0 same

@@ -1,10 +1,8 @@
 -- The bytes that kept copies have on each unit, as they are counted.
-use Rattle.std.specs.Prelude.{◌≡◌, ◌<◌, ℕ, Bool, true, false, if◌then◌else◌, List, [], ◌∷◌, length, Option, MatchOption}
+use Rattle.std.specs.Prelude.{◌≡◌, ◌<◌, ℕ, Bool, true, false, if◌then◌else◌, List, [], ◌∷◌, length, Option, MatchOption, bytes_eq}
 use Rattle.std.specs.List.{HoldsAt, AllWithin}
-use Rattle.std.specs.Str.{bytes_eq}
-use Rattle.site_types.specs.declared.image.ImageRecord.{ImageRecord}
-use Rattle.image_catalogue.specs.declared.unit_bytes.UnitBytes.{UnitBytes}
-use Rattle.image_catalogue.specs.Images.{used}
+pub use Rattle.image_catalogue.specs.declared.unit_bytes.UnitBytes.{UnitBytes}
+use Rattle.image_catalogue.specs.Images.{used, ImageRecord}
 
 -- an entry is one of this unit
 abbrev pub is_of : List ℕ → UnitBytes → Bool

@@ -1,13 +1,10 @@
 -- The images of a catalogue, by client and then by time.
-use Rattle.std.specs.Prelude.{◌≡◌, ℕ, ◌+◌, Bool, ◌&&◌, ◌==◌, not, if◌then◌else◌, List, [], ◌∷◌, length, filter, find, map, Option}
-use Rattle.std.specs.List.{AllPairs}
-use Rattle.std.specs.Str.{bytes_eq}
+use Rattle.std.specs.Prelude.{◌≡◌, ℕ, ◌+◌, Bool, ◌&&◌, ◌==◌, not, if◌then◌else◌, List, [], ◌∷◌, length, filter, find, Option, AllPairs, bytes_eq, true}
 use Rattle.std.specs.Cmp.Lexicographic.{slice_cmp}
 use Rattle.std.specs.Ordering.{is_lt, then_cmp, nat_cmp}
-use Rattle.std.specs.Prelude.{true}
-use Rattle.site_types.specs.declared.id.BackupId.{BackupId}
-use Rattle.site_types.specs.declared.image.CopyRecord.{CopyRecord}
-use Rattle.site_types.specs.declared.image.ImageRecord.{ImageRecord}
+pub use Rattle.site_types.specs.declared.id.BackupId.{BackupId}
+pub use Rattle.site_types.specs.declared.image.CopyRecord.{CopyRecord}
+pub use Rattle.site_types.specs.declared.image.ImageRecord.{ImageRecord}
 
 abbrev pub same_id : BackupId → BackupId → Bool
 same_id a b = bytes_eq a.client b.client && (a.time == b.time)
