@@ -1,13 +1,11 @@
 -- The two writes of an append, over what is known of the disk.
-use Rattle.std.proofs.Common.{◌≡◌, ◌≢◌, inl, ℕ, ◌+◌, ◌<◌, ◌^◌, List, [], ◌∷◌, ◌++◌, length, drop, Some, refl, sym, ◌∙◌, ap, subst, arith, Ok, length-append}
-use Rattle.std.specs.Prelude.{Result}
+use Rattle.pool_journal.proofs.Common.{◌≡◌, ◌≢◌, inl, ℕ, ◌+◌, ◌<◌, ◌^◌, List, [], ◌∷◌, ◌++◌, length, drop, Some, sym, ◌∙◌, ap, subst, arith, Ok, length-append, Result, written, Torn, Changes, Follows, IsDurable, WroteDurably, Tearing}
 use Rattle.vault_disk.specs.Disk.{Disk, Image, During, IsSame}
-use Rattle.vault_disk.specs.Steps.{written, Torn, Changes, Follows, IsDurable, WroteDurably, Tearing}
-use Rattle.vault_disk.proofs.Moments.{started, goes_on, weaker}
-use Rattle.pool_journal.specs.Entries.{Record, body_of, record_of, spelled_entry, IsWritable, IsSpellable}
-use Rattle.pool_journal.specs.Records.{Found, reading}
+use Rattle.vault_disk.proofs.Moments.{goes_on, weaker}
+use Rattle.pool_journal.specs.Entries.{Record, body_of, record_of, spelled_entry, IsWritable, IsSpellable, staged_record}
+use Rattle.pool_journal.specs.Records.{Found}
 use Rattle.pool_journal.specs.Stops.{AtRest, FromBefore, with_one, IsBeforeOrAfter, Appending, Appended, Stops}
-use Rattle.pool_journal.proofs.Bytes.{front, staged_record, length_staged, reads, torn_behind, staged, torn_gate, gate_opened}
+use Rattle.pool_journal.proofs.Bytes.{front, length_staged, reads, torn_behind, staged, torn_gate, gate_opened}
 use Rattle.pool_journal.proofs.FieldLemmas.{record_of-body}
 
 -- between the two writes
@@ -68,9 +66,6 @@ module _ (fs : List Found) (r : Record) (end : ℕ) (writable : IsWritable r) (o
     second_done mid now staged_now seen durable short =
         let holds = gate_opened fs end (old.seen 0) rest.holds (body_of r) r writable.0 spells size staged_now.rest (now.seen 0) staged_now.gate (seen.inside ∙ ap (λ (l : List ℕ). written l end (165 ∷ [])) staged_now.is) in
         record { holds = holds; reads = reads (now.seen 0) (with_one fs end r) (end + 5 + length (body_of r)) holds; durable = durable; short = omega (arith, length_staged (body_of r)) }
-
-  pub no_stop : Stops fs end r old old
-  no_stop = record { left = λ c left. record { from = c; left = left; others = λ g ne. refl; inside = inl (ap reading (rest.durable.only c left) ∙ rest.reads) }; during = started old (Appending fs end r old) }
 
   pub first_stop : {T E : Type 0} (at : ℕ) (bytes : List ℕ) (now : Disk) (result : Result T E) → at ≡ end + 1 → bytes ≡ staged_record (body_of r) → WroteDurably 0 at bytes old now result → Stops fs end r old now
   first_stop {T = T} {E = E} at bytes now result at_is bytes_are wrote =

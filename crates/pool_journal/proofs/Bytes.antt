@@ -1,27 +1,10 @@
 -- What is read of the bytes of records, and what writes make of them.
-use Rattle.std.proofs.Common.{◌≡◌, ◌≢◌, inl, inr, ℕ, zero, suc, ◌+◌, ◌-◌, ◌*◌, ◌≤◌, ◌<◌, ◌^◌, min, List, [], ◌∷◌, ◌++◌, length, take, drop, replicate, get_or, refl, sym, ◌∙◌, ap, subst, arith, append_assoc, length-append, take-append-drop, add-zero}
-use Rattle.std.specs.Prelude.{Some, if◌then◌else◌, nat_lt, nat_le, ◌==◌}
+use Rattle.pool_journal.proofs.Common.{◌≡◌, inl, inr, ℕ, zero, suc, ◌+◌, ◌-◌, ◌*◌, ◌≤◌, ◌<◌, ◌^◌, min, List, [], ◌∷◌, ◌++◌, length, take, drop, replicate, get_or, refl, sym, ◌∙◌, ap, subst, arith, append_assoc, length-append, take-append-drop, add-zero, Some, if◌then◌else◌, nat_lt, nat_le, ◌==◌, from_be_bytes-to_be_bytes_4, w32, to_be_bytes, from_be_bytes, written, Torn, lt-ltb, ne_eqb, le-leb}
 use Rattle.std.proofs.lemmas.List.{take_at, drop_at, drop_more, append-nil, drop-drop}
-use Rattle.std.proofs.lemmas.Bool.{cases_eq, cases_lt}
-use Rattle.std.proofs.lemmas.Bool.Decides.{nat_tests}
-use Rattle.std.proofs.lemmas.Nat.{from_be_bytes-to_be_bytes_4}
-use Rattle.std.specs.Int.{w32, to_be_bytes, from_be_bytes}
-use Rattle.vault_disk.specs.Steps.{written, Torn}
-use Rattle.pool_journal.specs.Entries.{Record, record_of, spelled_entry}
+use Rattle.std.proofs.lemmas.Bool.{cases_eq, cases_lt, cond-true, cond-false, lt-leb}
+use Rattle.pool_journal.specs.Entries.{Record, record_of, spelled_entry, staged_record}
 use Rattle.pool_journal.specs.Records.{header, Found, Reading, found, broken, behind, bytes_from, with_record, records, reading, spelled, AllSmall, Spell, Holds}
 use Rattle.pool_journal.specs.Stops.{with_one, IsBeforeOrAfter}
-
-when_lt : {A : Type 0} (a b : ℕ) (x y : A) → a < b → (if nat_lt a b then x else y) ≡ x
-when_lt a b x y lt = grind (arith, nat_tests)
-
-pub when_le : {A : Type 0} (a b : ℕ) (x y : A) → a ≤ b → (if nat_le a b then x else y) ≡ x
-when_le a b x y le = grind (arith, nat_tests)
-
-pub when_more : {A : Type 0} (a b : ℕ) (x y : A) → b < a → (if nat_le a b then x else y) ≡ y
-when_more a b x y lt = grind (arith, nat_tests)
-
-when_shut : {A : Type 0} (g : ℕ) (x y : A) → g ≢ 165 → (if g == 165 then x else y) ≡ y
-when_shut g x y ne = grind (arith, nat_tests)
 
 -- the record at an open gate, its length known
 abbrev pub AtRecord : ℕ → ℕ → ℕ → List ℕ → Reading
@@ -59,7 +42,7 @@ read_on (suc n) at (b ∷ bodies) (f ∷ fs) rest spell small some long =
     let place : at + 5 + length b + length (spelled bodies) ≡ at + length (spelled (b ∷ bodies)) = omega (arith, length-append b (spelled bodies)) in
     let one : record { at = at; from = bytes_from at (length b) f.is; is = f.is } ≡ f = λ i. record { at = sym spell.0 i; from = sym spell.1 i; is = f.is } in
     let here : AtRecord n at (length b) after ≡ all_behind (f ∷ fs) (records (suc more.0) (at + length (spelled (b ∷ bodies))) rest) =
-    when_lt (4 + length b) (length after) _ (broken [] at) long_enough
+    cond-true (nat_lt (4 + length b) (length after)) _ (broken [] at) (lt-ltb (4 + length b) (length after) long_enough)
     ∙ (λ i. with_record at (length b) (record_of (body i)) (records n (at + 5 + length b) (next i)))
     ∙ (λ i. with_record at (length b) (spell.2 i) (more.1 i))
     ∙ ap (λ (g : Found). behind g (all_behind fs (records (suc more.0) (at + 5 + length b + length (spelled bodies)) rest))) one
@@ -80,14 +63,14 @@ reading_on bytes bodies fs rest is spell small some long =
     let many = length_spelled bodies in
     let enough : length bodies < length (header ++ body) = omega (arith, length-append (spelled bodies) rest) in
     let read = read_on (length (header ++ body)) 16 bodies fs rest spell small some enough in
-    (read.0, ap reading whole ∙ when_more (length (header ++ body)) 17 (found []) _ (subst (λ (l : List ℕ). 17 < length l) whole long) ∙ read.1)
+    (read.0, ap reading whole ∙ cond-false (nat_le (length (header ++ body)) 17) (found []) _ (lt-leb (length (header ++ body)) 17 (subst (λ (l : List ℕ). 17 < length l) whole long)) ∙ read.1)
 
 pub reads : (bytes : List ℕ) (fs : List Found) (end : ℕ) → Holds bytes fs end → reading bytes ≡ found fs
 reads bytes fs end holds = elim (cases_lt 17 (length bytes)) [
   | inl more ↦
       let read = reading_on bytes holds.bodies fs (holds.gate ∷ holds.tail) holds.is holds.spell holds.small (omega arith) more in
-      read.1 ∙ ap (all_behind fs) (when_shut holds.gate _ (found []) holds.shut) ∙ all_behind-found fs
-  | inr few ↦ when_le (length bytes) 17 (found []) _ few ∙ ap found (none holds.bodies fs holds.spell (omega (arith, ap length holds.is, length_spelled holds.bodies, length-append (header ++ spelled holds.bodies) (holds.gate ∷ holds.tail))))
+      read.1 ∙ ap (all_behind fs) (cond-false (holds.gate == 165) _ (found []) (ne_eqb holds.gate 165 holds.shut)) ∙ all_behind-found fs
+  | inr few ↦ cond-true (nat_le (length bytes) 17) (found []) _ (le-leb (length bytes) 17 few) ∙ ap found (none holds.bodies fs holds.spell (omega (arith, ap length holds.is, length_spelled holds.bodies, length-append (header ++ spelled holds.bodies) (holds.gate ∷ holds.tail))))
 ]
   where
     none : (bodies : List (List ℕ)) (gs : List Found) → Spell 16 bodies gs → length bodies ≤ 0 → [] ≡ gs
@@ -106,10 +89,6 @@ broken_at bytes bodies fs rest is spell small some long none =
 -- a journal up to its closed gate
 abbrev pub front : List (List ℕ) → List ℕ
 front bodies = header ++ spelled bodies
-
--- a record behind its gate, and a closed gate
-abbrev pub staged_record : List ℕ → List ℕ
-staged_record body = to_be_bytes w32 (length body) ++ body ++ 0 ∷ []
 
 pub length_staged : (body : List ℕ) → length (staged_record body) ≡ 5 + length body
 length_staged body = omega (arith, length-append body (0 ∷ []))

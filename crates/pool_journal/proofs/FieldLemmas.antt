@@ -1,45 +1,31 @@
 -- Reading what was spelled, field by field.
-use Rattle.std.proofs.Common.{◌≡◌, ◌≢◌, inl, inr, ℕ, ◌≤◌, ◌<◌, ◌^◌, List, [], ◌∷◌, ◌++◌, length, Some, None, true, refl, sym, ◌∙◌, ap, suc, arith, append_assoc, length-append}
-use Rattle.std.specs.Prelude.{Option, option_and_then, option_map, nat_lt, ◌==◌, if◌then◌else◌}
-use Rattle.std.proofs.lemmas.List.{take_at, drop_at, append-nil}
-use Rattle.std.proofs.lemmas.Bool.{cases_eq}
-use Rattle.std.proofs.lemmas.Bool.Decides.{nat_tests}
-use Rattle.std.proofs.lemmas.Nat.{from_be_bytes-to_be_bytes_2, from_be_bytes-to_be_bytes_4, from_be_bytes-to_be_bytes_8}
-use Rattle.std.specs.Int.{w16, w32, w64, to_be_bytes}
+use Rattle.pool_journal.proofs.Common.{◌≡◌, ◌≢◌, inl, inr, ℕ, ◌<◌, ◌^◌, List, [], ◌∷◌, ◌++◌, length, Some, None, true, refl, sym, ◌∙◌, ap, suc, arith, append_assoc, length-append, Option, option_and_then, option_map, nat_lt, ◌==◌, if◌then◌else◌, take_at, drop_at, append-nil, nat_tests, from_be_bytes-to_be_bytes_2, from_be_bytes-to_be_bytes_4, from_be_bytes-to_be_bytes_8, w16, w32, w64, to_be_bytes, WholeImage, Ok, Err, Result, OnOk, le-ltb}
+use Rattle.std.proofs.lemmas.Bool.{cases_eq, cond-true, cond-false}
 use Rattle.site_types.specs.Names.{is_name}
-use Rattle.site_types.specs.declared.id.BackupId.{BackupId}
-use Rattle.site_types.specs.declared.image.Kind.{Kind}
-use Rattle.site_types.specs.declared.image.Kind.TheVariants.{Full, Differential, Cumulative}
-use Rattle.site_types.specs.declared.image.Base.{Base}
+use Rattle.pool_journal.specs.Fields.{string, strings, kind_code, base_code, Field, short_field, count_field, long_field, text_first, strings_field, behind_length, string_field, named, name_field, kind_field, base_coded, base_field, both, byte_field, Kind, Full, Differential, Cumulative, Base}
+use Rattle.pool_journal.specs.Entries.{Record, spelled_id, spelled_names, spelled_kind_and_base, spelled_lifecycle, spelled_longs, spelled_image, spelled_settings, spelled_entry, body_of, id_made, id_field, made_under_field, taken_as_field, version_field, moments_field, image_made, settings_field, whole_image_field, without_bytes, with_bytes, record_of, AllShort, AreLines, IsFormed, IsSpellable, of_kind, BackupId, Entry}
 use Rattle.site_types.specs.declared.image.Base.TheVariants as base
-use Rattle.pool_journal.specs.Fields.{string, strings, kind_code, base_code, Field, short_field, count_field, long_field, text_first, strings_field, behind_length, string_field, named, name_field, kind_field, base_coded, base_field, both}
-use Rattle.pool_journal.specs.declared.entry.WholeImage.{WholeImage}
-use Rattle.pool_journal.specs.declared.entry.Entry.{Entry}
 use Rattle.pool_journal.specs.declared.entry.Entry.TheVariants as entry
-use Rattle.pool_journal.specs.Entries.{Record, spelled_id, spelled_names, spelled_kind_and_base, spelled_lifecycle, spelled_longs, spelled_image, spelled_settings, spelled_entry, body_of, id_made, id_field, made_under_field, taken_as_field, version_field, moments_field, image_made, settings_field, whole_image_field, without_bytes, with_bytes, record_of, AllShort, AreLines, IsFormed, IsSpellable}
 
-when_le : {A : Type 0} (a b : ℕ) (x y : A) → a ≤ b → (if nat_lt b a then y else x) ≡ x
-when_le a b x y le = grind (arith, nat_tests)
+chosen : {A : Type 0} (m n : ℕ) (x y : A) → m ≡ n → (if m == n then x else y) ≡ x
+chosen m n x y is = grind (arith, nat_tests)
 
 pub short-spelled : (n : ℕ) (rest : List ℕ) → n < 2 ^ 16 → short_field (to_be_bytes w16 n ++ rest) ≡ Some (n, rest)
-short-spelled n rest small = when_le 2 (length (to_be_bytes w16 n ++ rest)) _ None (omega arith) ∙ ap (λ (k : ℕ). Some (k, rest)) (from_be_bytes-to_be_bytes_2 n small)
+short-spelled n rest small = cond-false (nat_lt (length (to_be_bytes w16 n ++ rest)) 2) None _ (le-ltb (length (to_be_bytes w16 n ++ rest)) 2 (omega arith)) ∙ ap (λ (k : ℕ). Some (k, rest)) (from_be_bytes-to_be_bytes_2 n small)
 
 pub long-spelled : (n : ℕ) (rest : List ℕ) → n < 2 ^ 64 → long_field (to_be_bytes w64 n ++ rest) ≡ Some (n, rest)
-long-spelled n rest small = when_le 8 (length (to_be_bytes w64 n ++ rest)) _ None (omega arith) ∙ ap (λ (k : ℕ). Some (k, rest)) (from_be_bytes-to_be_bytes_8 n small)
-
-when_name : (b : _) (x : List ℕ × List ℕ) → b ≡ true → (if b then Some x else None) ≡ Some x
-when_name b x is = (λ i. if is i then Some x else None)
+long-spelled n rest small = cond-false (nat_lt (length (to_be_bytes w64 n ++ rest)) 8) None _ (le-ltb (length (to_be_bytes w64 n ++ rest)) 8 (omega arith)) ∙ ap (λ (k : ℕ). Some (k, rest)) (from_be_bytes-to_be_bytes_8 n small)
 
 pub string-spelled : (text rest : List ℕ) → length text < 2 ^ 16 → string_field (string text ++ rest) ≡ Some (text, rest)
 string-spelled text rest small =
     let behind : List ℕ = text ++ rest in
     ap (λ (o : Option (ℕ × List ℕ)). option_and_then behind_length o) (short-spelled (length text) behind small)
-    ∙ when_le (length text) (length behind) _ None (omega (arith, length-append text rest)) ∙ (λ i. Some (take_at text rest (length text) refl i, drop_at text rest (length text) refl i))
+    ∙ cond-false (nat_lt (length behind) (length text)) None _ (le-ltb (length behind) (length text) (omega (arith, length-append text rest))) ∙ (λ i. Some (take_at text rest (length text) refl i, drop_at text rest (length text) refl i))
 
 pub name-spelled : (name rest : List ℕ) → is_name name ≡ true → name_field (string name ++ rest) ≡ Some (name, rest)
 name-spelled name rest is =
     let small : length name < 2 ^ 16 = grind (arith, nat_tests) in
-    ap (λ (o : Option (List ℕ × List ℕ)). option_and_then named o) (string-spelled name rest small) ∙ when_name (is_name name) (name, rest) is
+    ap (λ (o : Option (List ℕ × List ℕ)). option_and_then named o) (string-spelled name rest small) ∙ cond-true (is_name name) (Some (name, rest)) None is
 
 pub kind-spelled : (kind : Kind) (rest : List ℕ) → kind_field (kind_code kind ∷ rest) ≡ Some (kind, rest)
 kind-spelled Full rest = refl
@@ -88,7 +74,7 @@ image-spelled image rest can formed =
     ∙ ap (λ (o : Option ((ℕ × ℕ) × List ℕ)). option_and_then (λ t. Some (image_made image.id (image.policy, image.schedule) (image.kind, image.base) (image.lifecycle, image.version) t.0, t.1)) o) moments
 
 pub count-spelled : (n : ℕ) (rest : List ℕ) → n < 2 ^ 32 → count_field (to_be_bytes w32 n ++ rest) ≡ Some (n, rest)
-count-spelled n rest small = when_le 4 (length (to_be_bytes w32 n ++ rest)) _ None (omega arith) ∙ ap (λ (k : ℕ). Some (k, rest)) (from_be_bytes-to_be_bytes_4 n small)
+count-spelled n rest small = cond-false (nat_lt (length (to_be_bytes w32 n ++ rest)) 4) None _ (le-ltb (length (to_be_bytes w32 n ++ rest)) 4 (omega arith)) ∙ ap (λ (k : ℕ). Some (k, rest)) (from_be_bytes-to_be_bytes_4 n small)
 
 pub strings-spelled : (texts : List (List ℕ)) (rest : List ℕ) → AllShort texts → strings_field (length texts) (strings texts ++ rest) ≡ Some (texts, rest)
 strings-spelled [] rest short = refl
@@ -103,9 +89,6 @@ settings-spelled lines are =
     ap (λ (o : Option (ℕ × List ℕ)). option_and_then (λ p. strings_field p.0 p.1) o) (count-spelled (length lines) (strings lines) are.0)
     ∙ ap (strings_field (length lines)) (sym (append-nil (strings lines))) ∙ strings-spelled lines [] are.1
 
-when_long : (m n : ℕ) (x y : Option Record) → m ≡ n → (if m == n then x else y) ≡ x
-when_long m n x y is = grind (arith, nat_tests)
-
 -- a record's body spells it
 pub record_of-body : (r : Record) → IsSpellable r.entry → IsFormed r.entry r.bytes → record_of (body_of r) ≡ Some r
 record_of-body r = at r.entry r.bytes
@@ -115,4 +98,16 @@ record_of-body r = at r.entry r.bytes
         ap (λ (l : List ℕ). record_of (spelled_entry (entry.Settings lines) ++ l)) formed.1 ∙ ap record_of (append-nil (spelled_entry (entry.Settings lines)))
         ∙ ap (λ (o : Option (List (List ℕ) × List ℕ)). option_and_then without_bytes o) (settings-spelled lines formed.0) ∙ ap (λ (l : List ℕ). Some (record { entry = entry.Settings lines; bytes = l })) (sym formed.1)
     at (entry.WholeImage image) bytes can formed =
-        ap (λ (o : Option (WholeImage × List ℕ)). option_and_then with_bytes o) (image-spelled image bytes can formed.1) ∙ when_long image.length (length bytes) _ None formed.0
+        ap (λ (o : Option (WholeImage × List ℕ)). option_and_then with_bytes o) (image-spelled image bytes can formed.1) ∙ chosen image.length (length bytes) _ None formed.0
+
+-- five parts pushed one behind another
+pub five_pushed : {T E : Type 0} (r : Result T E) (o a b c d e n1 n2 n3 n4 n5 : List ℕ) → n1 ≡ o ++ a → n2 ≡ n1 ++ b → n3 ≡ n2 ++ c → n4 ≡ n3 ++ d → OnOk r (n5 ≡ n4 ++ e) → OnOk r (n5 ≡ o ++ (a ++ b ++ c ++ d ++ e))
+five_pushed (Err x) o a b c d e n1 n2 n3 n4 n5 p q r s t = t
+five_pushed (Ok v) o a b c d e n1 n2 n3 n4 n5 p q r s t =
+    t ∙ ap (λ (l : List ℕ). l ++ e) (s ∙ ap (λ (l : List ℕ). l ++ d) (r ∙ ap (λ (l : List ℕ). l ++ c) (q ∙ ap (λ (l : List ℕ). l ++ b) p)))
+    ∙ ap (λ (l : List ℕ). l ++ c ++ d ++ e) (append_assoc o a b) ∙ ap (λ (l : List ℕ). l ++ d ++ e) (append_assoc o (a ++ b) c) ∙ ap (λ (l : List ℕ). l ++ e) (append_assoc o (a ++ b ++ c) d) ∙ append_assoc o (a ++ b ++ c ++ d) e
+
+pub whole_image_read : (body rest bytes : List ℕ) (image : WholeImage) → byte_field body ≡ Some (7, rest) → whole_image_field rest ≡ Some (image, bytes) → image.length ≡ length bytes
+    → record_of body ≡ Some (record { entry = entry.WholeImage image; bytes = bytes })
+whole_image_read body rest bytes image kind fields long =
+    ap (λ (o : Option (ℕ × List ℕ)). option_and_then of_kind o) kind ∙ ap (λ (o : Option (WholeImage × List ℕ)). option_and_then with_bytes o) fields ∙ chosen image.length (length bytes) _ None long

@@ -1,22 +1,14 @@
 -- Where the bytes of an image stand, and what is read of them.
-use Rattle.std.proofs.Common.{◌≡◌, ℕ, zero, suc, ◌+◌, ◌<◌, List, [], ◌∷◌, ◌++◌, length, take, drop, get_or, refl, sym, ◌∙◌, ap, subst, arith, append_assoc, length-append}
-use Rattle.std.specs.Prelude.{Contains}
-use Rattle.std.proofs.lemmas.List.{take_at, drop_at}
-use Rattle.std.proofs.lemmas.List.Elements.{Contains-append_left, Contains-push}
-use Rattle.std.specs.Int.{w32, to_be_bytes}
-use Rattle.vault_disk.specs.Disk.{Disk}
-use Rattle.vault_disk.specs.Steps.{Rests, ReadsFully}
-use Rattle.pool_journal.specs.Entries.{Record, spelled_entry}
-use Rattle.pool_journal.specs.Records.{header, Found, reading, spelled, Spell, Holds}
-use Rattle.pool_journal.specs.Stops.{AtRest, with_one}
+use Rattle.pool_journal.proofs.Common.{◌≡◌, ℕ, zero, suc, ◌+◌, ◌<◌, List, [], ◌∷◌, ◌++◌, length, take, drop, get_or, refl, sym, ◌∙◌, ap, subst, arith, append_assoc, length-append, Contains, take_at, drop_at, w32, to_be_bytes, ReadsFully}
+use Rattle.std.proofs.lemmas.List.Elements.{Contains-append_left}
+use Rattle.pool_journal.specs.Entries.{Record}
+use Rattle.pool_journal.specs.Records.{header, Found, spelled, Spell, Holds}
+use Rattle.pool_journal.specs.Stops.{with_one}
 use Rattle.pool_journal.proofs.Suffixes.{bytes_end}
 
 -- a record that is there stays there when one more is added, and the new one is there too
 pub still_there : (fs : List Found) (end : ℕ) (r : Record) (f : Found) → Contains fs f → Contains (with_one fs end r) f
 still_there fs end r f there = Contains-append_left fs _ f there
-
-pub new_there : (fs : List Found) (end : ℕ) (r : Record) → Contains (with_one fs end r) (record { at = end; from = end + 5 + length (spelled_entry r.entry); is = r })
-new_there fs end r = Contains-push fs _
 
 -- these bytes stand in the others at this offset
 pub record StandAt (bytes : List ℕ) (at : ℕ) (whole : List ℕ) : Type 0 where
@@ -78,12 +70,3 @@ read_there bytes into fs end from n f holds there from_is size_is reads =
     let here : drop from bytes ≡ f.is.bytes ++ stand.0 = ap (λ (k : ℕ). drop k bytes) from_is ∙ stand.1 in
     let all : n ≡ length f.is.bytes = omega (arith, reads.count, size_is, ap length here, length-append f.is.bytes stand.0) in
     reads.bytes_are ∙ (λ i. take (all i) (here i)) ∙ take_at f.is.bytes stand.0 (length f.is.bytes) refl
-
--- a look leaves a journal at rest
-pub still_at_rest : (old now : Disk) (fs : List Found) (end : ℕ) → Rests old now → AtRest old end fs → AtRest now end fs
-still_at_rest old now fs end rests rest = record {
-  holds = subst (λ (l : List ℕ). Holds l fs end) (sym (rests.seen 0)) rest.holds;
-  reads = ap reading (rests.seen 0) ∙ rest.reads;
-  durable = record { only = λ c left. rest.durable.only c (rests.left c left) ∙ sym (rests.seen 0) };
-  short = rest.short;
-}

@@ -1,4 +1,4 @@
-pub mod EntryLemmas
+pub mod Common
 pub mod FieldLemmas
 pub mod Bytes
 pub mod Lines

@@ -1,11 +1,8 @@
 -- Strings, one behind another.
-use Rattle.std.proofs.Common.{◌≡◌, ℕ, ◌+◌, ◌-◌, ◌<◌, ◌≤◌, ◌^◌, min, zero, suc, List, [], ◌∷◌, ◌++◌, length, get_or, take, refl, sym, ap, subst, ◌∙◌, append_assoc, length-append, arith}
-use Rattle.std.specs.Prelude.{Option, Some, None, Err, option_map, option_and_then}
-use Rattle.std.proofs.lemmas.List.{flat_map_more, take_more, take_all, append-nil}
-use Rattle.pool_journal.specs.Fields.{string, strings, string_field, strings_field, text_first, IsField}
+use Rattle.std.proofs.Common.{◌≡◌, ℕ, ◌+◌, ◌-◌, ◌<◌, ◌≤◌, ◌^◌, min, zero, suc, List, [], ◌∷◌, ◌++◌, length, get_or, take, refl, sym, ap, subst, ◌∙◌, append_assoc, length-append, arith, Option, Some, None, Err, option_map, option_and_then}
+use Rattle.std.proofs.lemmas.List.{flat_map_more, take_more, append-nil}
+use Rattle.pool_journal.specs.Fields.{string, strings, string_field, strings_field, text_first, IsField, FieldFault, Broken, NoMemory}
 use Rattle.pool_journal.specs.Entries.{AllShort}
-use Rattle.pool_journal.specs.declared.fields.FieldFault.{FieldFault}
-use Rattle.pool_journal.specs.declared.fields.FieldFault.TheVariants.{Broken, NoMemory}
 
 pub short_at : (texts : List (List ℕ)) (k : ℕ) (x : List ℕ) → AllShort texts → k < length texts → x ≡ get_or texts k x → length x < 2 ^ 16
 short_at [] k x all lt is = absurd (omega arith)
@@ -20,18 +17,12 @@ one_more texts k x front lt is =
 pub pushed_more : (out new front : List ℕ) (texts : List (List ℕ)) (k : ℕ) (x : List ℕ) → k < length texts → x ≡ get_or texts k x → out ≡ front ++ strings (take k texts) → new ≡ out ++ string x → new ≡ front ++ strings (take (k + 1) texts)
 pushed_more out new front texts k x lt is so_far adds = adds ∙ ap (λ (w : List ℕ). w ++ string x) so_far ∙ one_more texts k x front lt is
 
-pub pushed_all : (out front : List ℕ) (texts : List (List ℕ)) (k : ℕ) → length texts ≤ k → out ≡ front ++ strings (take k texts) → out ≡ front ++ strings texts
-pushed_all out front texts k le so_far = so_far ∙ ap (λ (ts : List (List ℕ)). front ++ strings ts) (take_all k texts le)
-
 -- and counted
 pub counted_more : (size two all : ℕ) (texts : List (List ℕ)) (k : ℕ) (x : List ℕ) → k < length texts → x ≡ get_or texts k x → size ≡ min (length (strings (take k texts))) (2 ^ 64 - 1) → two ≡ min (size + 2) (2 ^ 64 - 1) → all ≡ min (two + length x) (2 ^ 64 - 1)
     → all ≡ min (length (strings (take (k + 1) texts))) (2 ^ 64 - 1)
 counted_more size two all texts k x lt is so_far first then =
     let longer : length (strings (take k texts)) + length (string x) ≡ length (strings (take (k + 1) texts)) = sym (length-append (strings (take k texts)) (string x)) ∙ ap length (one_more texts k x [] lt is) in
     omega (arith, so_far, first, then, longer)
-
-pub counted_all : (size : ℕ) (texts : List (List ℕ)) (k : ℕ) → length texts ≤ k → size ≡ min (length (strings (take k texts))) (2 ^ 64 - 1) → size ≡ min (length (strings texts)) (2 ^ 64 - 1)
-counted_all size texts k le so_far = so_far ∙ ap (λ (ts : List (List ℕ)). min (length (strings ts)) (2 ^ 64 - 1)) (take_all k texts le)
 
 -- these are read, and what is read behind them
 abbrev pub behind_texts : List (List ℕ) → Option (List (List ℕ) × List ℕ) → Option (List (List ℕ) × List ℕ)

@@ -1,14 +1,12 @@
 -- What an opening leaves.
-use Rattle.std.proofs.Common.{◌≡◌, ◌≢◌, ◌⊎◌, inl, inr, ⊎_elim, ℕ, ◌-◌, ◌≤◌, List, [], ◌∷◌, ◌++◌, length, replicate, refl, sym, ◌∙◌, ap, subst, arith, Ok, Err, ◌<◌, ◌^◌, lit<, length-append}
-use Rattle.std.specs.Prelude.{Result, OnOk, Option, Some, None, nat_eq, false, drop, if◌then◌else◌}
+use Rattle.pool_journal.proofs.Common.{◌≡◌, ◌≢◌, ◌⊎◌, inl, inr, ℕ, ◌-◌, ◌≤◌, List, [], ◌∷◌, ◌++◌, length, replicate, refl, sym, ◌∙◌, ap, subst, arith, Ok, Err, ◌<◌, ◌^◌, lit<, length-append, Result, OnOk, Option, Some, None, nat_eq, false, drop, if◌then◌else◌, written, Torn, Changes, IsDurable, WroteDurably, WasCut, Synced, LookedAround, starts_with, common_prefix_len, le-leb, nat_le}
+use Rattle.std.proofs.Common.{⊎_elim}
+use Rattle.std.proofs.lemmas.Bool.{cond-true, cond-false, lt-leb}
 use Rattle.vault_disk.specs.Disk.{Disk, Image, During, IsSame, Now}
-use Rattle.vault_disk.specs.Steps.{written, Torn, Changes, IsDurable, WroteDurably, WasCut, Synced, LookedAround}
 use Rattle.vault_disk.proofs.Moments.{goes_on, weaker}
-use Rattle.std.specs.List.{starts_with, common_prefix_len}
-use Rattle.pool_journal.specs.Records.{header, Found, Reading, found, broken, foreign, records, spelled, reading, Holds, IsToldOf}
-use Rattle.pool_journal.specs.declared.records.Placed.{Placed}
+use Rattle.pool_journal.specs.Records.{header, Found, Reading, found, broken, foreign, records, spelled, reading, Holds, IsToldOf, Placed}
 use Rattle.pool_journal.specs.Stops.{AtRest, FromBefore, SameReading, Leaves, OpenStops, Begins, IsOpened}
-use Rattle.pool_journal.proofs.Bytes.{when_le, when_more, reads}
+use Rattle.pool_journal.proofs.Bytes.{reads}
 
 -- the file is durable, and was looked at
 pub record Settled (old now : Disk) : Type 0 where
@@ -22,7 +20,7 @@ pub settled : (old now : Disk) → IsDurable 0 old → LookedAround old now → 
 settled old now durable looked same = record { seen = looked.rests.seen; left = looked.rests.left; durable = durable.only; sent = same.sent; during = looked.during }
 
 few : (bytes : List ℕ) → length bytes ≤ 17 → reading bytes ≡ found []
-few bytes le = when_le (length bytes) 17 (found []) _ le
+few bytes le = cond-true (nat_le (length bytes) 17) (found []) _ (le-leb (length bytes) 17 le)
 
 module _ (old mid : Disk) (settled : Settled old mid) where
   same_left : (c : Image) → old.may_leave c → SameReading old c
@@ -132,7 +130,7 @@ begins_any {T = T} {E = E} old mid now v (Err e) first short durable first_is cu
 
 -- bytes that differ from the header
 pub foreign_at : (bytes : List ℕ) (at : ℕ) → 17 < length bytes → starts_with nat_eq bytes header ≡ false → at ≡ common_prefix_len nat_eq bytes header → reading bytes ≡ foreign at
-foreign_at bytes at long differs is = when_more (length bytes) 17 (found []) _ long ∙ (λ i. if differs i then records (length bytes) 16 (drop 16 bytes) else foreign (common_prefix_len nat_eq bytes header)) ∙ ap foreign (sym is)
+foreign_at bytes at long differs is = cond-false (nat_le (length bytes) 17) (found []) _ (lt-leb (length bytes) 17 long) ∙ (λ i. if differs i then records (length bytes) 16 (drop 16 bytes) else foreign (common_prefix_len nat_eq bytes header)) ∙ ap foreign (sym is)
 
 -- what was told of the bytes is what the opening found
 pub is_opened : (r : Reading) (old now : Disk) (bytes : List ℕ) (entries : List Placed) (end : ℕ) (bad : Option ℕ) → r ≡ reading bytes → length bytes < 2 ^ 63 → Settled old now → bytes ≡ old.seen 0 → IsToldOf bytes r entries end bad → IsOpened r now end entries bad

@@ -1,15 +1,9 @@
 -- Reading a journal's records one by one.
-use Rattle.std.proofs.Common.{◌≡◌, ◌≢◌, ℕ, suc, ◌+◌, ◌-◌, ◌<◌, ◌^◌, List, [], ◌∷◌, ◌++◌, length, take, drop, get_or, Bool, true, false, refl, sym, ◌∙◌, ap, subst, arith, append_assoc, length-append}
-use Rattle.std.specs.Prelude.{Some, None, Option, nat_eq, nat_lt, if◌then◌else◌}
-use Rattle.std.specs.List.{starts_with}
+use Rattle.pool_journal.proofs.Common.{◌≡◌, ◌≢◌, ℕ, suc, ◌+◌, ◌-◌, ◌<◌, ◌^◌, List, [], ◌∷◌, ◌++◌, length, take, drop, get_or, Bool, true, false, refl, sym, ◌∙◌, ap, subst, arith, append_assoc, length-append, Some, None, Option, nat_eq, nat_lt, if◌then◌else◌, starts_with, Decides-eqb, from_be_bytes-to_be_bytes_4, w32, to_be_bytes, from_be_bytes}
 use Rattle.std.proofs.lemmas.List.{take_all, take_at, map-append}
 use Rattle.std.proofs.lemmas.Slice.Eq.{starts_is}
-use Rattle.std.proofs.lemmas.Bool.Decides.{Decides-eqb}
-use Rattle.std.proofs.lemmas.Nat.{from_be_bytes-to_be_bytes_4}
-use Rattle.std.specs.Int.{w32, to_be_bytes, from_be_bytes}
 use Rattle.pool_journal.specs.Entries.{Record, record_of}
-use Rattle.pool_journal.specs.Records.{header, Found, Reading, broken, records, with_record, reading, placed, placed_of, spelled, AllSmall, Spell, Holds, IsToldOf}
-use Rattle.pool_journal.specs.declared.records.Placed.{Placed}
+use Rattle.pool_journal.specs.Records.{header, Found, Reading, broken, records, with_record, reading, placed, placed_of, spelled, AllSmall, Spell, Holds, IsToldOf, Placed}
 use Rattle.pool_journal.proofs.Bytes.{AtRecord, reads, broken_at, spelled-one, Spell-push}
 
 pub cons_of : (rest : List ℕ) (g : ℕ) → 0 < length rest → get_or rest 0 0 ≡ g → rest ≡ g ∷ take (length rest - 1) (drop 1 rest)

@@ -2,17 +2,13 @@
 use Rattle.std.specs.Prelude.{◌≡◌, ◌≢◌, ℕ, ◌+◌, ◌^◌, ◌<◌, ◌==◌, if◌then◌else◌, true, List, [], ◌∷◌, ◌++◌, length, Option, Some, None, option_map, option_and_then, Result, Ok, Err}
 use Rattle.std.specs.Int.{w16, w32, w64, to_be_bytes}
 use Rattle.site_types.specs.Names.{is_name}
-use Rattle.site_types.specs.declared.id.BackupId.{BackupId}
-use Rattle.site_types.specs.declared.image.Kind.{Kind}
-use Rattle.site_types.specs.declared.image.Base.{Base}
-use Rattle.site_types.specs.declared.image.Base.TheVariants as base
-use Rattle.pool_journal.specs.Fields.{string, strings, kind_code, base_code, Field, byte_field, short_field, count_field, long_field, strings_field, name_field, kind_field, base_field, both}
-use Rattle.pool_journal.specs.declared.fields.FieldFault.{FieldFault}
-use Rattle.pool_journal.specs.declared.fields.FieldFault.TheVariants.{Broken, NoMemory}
-use Rattle.pool_journal.specs.declared.entry.Entry.{Entry}
-use Rattle.pool_journal.specs.declared.entry.Entry.TheVariants as entry
-use Rattle.pool_journal.specs.declared.entry.WholeImage.{WholeImage}
+pub use Rattle.site_types.specs.declared.id.BackupId.{BackupId}
+use Rattle.pool_journal.specs.Fields.{string, strings, kind_code, base_code, Field, byte_field, short_field, count_field, long_field, strings_field, name_field, kind_field, base_field, both, Kind, Base, FieldFault, Broken, NoMemory}
+pub use Rattle.pool_journal.specs.declared.entry.Entry.{Entry}
+pub use Rattle.pool_journal.specs.declared.entry.WholeImage.{WholeImage}
 use Rattle.pool_journal.specs.declared.entry.Parsed.{Parsed}
+use Rattle.site_types.specs.declared.image.Base.TheVariants as base
+use Rattle.pool_journal.specs.declared.entry.Entry.TheVariants as entry
 
 -- a record: an entry, and for a whole image its bytes; behind settings there are none
 pub record Record : Type 0 where
@@ -51,9 +47,9 @@ spelled_entry (entry.WholeImage image) = 7 ∷ spelled_image image
 abbrev pub body_of : Record → List ℕ
 body_of r = spelled_entry r.entry ++ r.bytes
 
--- what stands behind a record's gate, with the closed gate of the next
-abbrev pub staged_bytes : Record → List ℕ
-staged_bytes r = to_be_bytes w32 (length (body_of r)) ++ body_of r ++ 0 ∷ []
+-- what stands behind the gate of a record with this body, with the closed gate of the next
+abbrev pub staged_record : List ℕ → List ℕ
+staged_record body = to_be_bytes w32 (length body) ++ body ++ 0 ∷ []
 
 -- how it is read
 abbrev pub id_made : (List ℕ × ℕ) × List ℕ → BackupId × List ℕ
@@ -157,4 +153,4 @@ IsSpellable (entry.WholeImage image) = ImageFits image
 pub record IsStaged (r : Record) (bytes : List ℕ) : Type 0 where
   pub writable : IsWritable r
   pub spellable : IsSpellable r.entry
-  pub is : bytes ≡ staged_bytes r
+  pub is : bytes ≡ staged_record (body_of r)

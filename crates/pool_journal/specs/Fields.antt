@@ -1,16 +1,15 @@
 -- The fields of a record. Numbers are big-endian, and a string is a length of two bytes and its bytes.
-use Rattle.std.specs.Prelude.{◌≡◌, ℕ, zero, suc, ◌==◌, if◌then◌else◌, List, [], ◌∷◌, ◌++◌, length, Option, Some, None, option_map, option_and_then, Result, Ok, Err}
-use Rattle.std.specs.List.{flat_map}
+use Rattle.std.specs.Prelude.{◌≡◌, ℕ, zero, suc, ◌==◌, if◌then◌else◌, List, [], ◌∷◌, ◌++◌, length, Option, Some, None, option_map, option_and_then, Result, Ok, Err, flat_map}
 use Rattle.std.specs.Int.{w16, w32, w64, to_be_bytes}
 use Rattle.site_types.specs.Names.{is_name}
 use Rattle.site_types.specs.Fields.{number_field, bytes_field}
+pub use Rattle.site_types.specs.declared.image.Kind.{Kind}
+pub use Rattle.site_types.specs.declared.image.Kind.TheVariants.{Full, Differential, Cumulative}
+pub use Rattle.site_types.specs.declared.image.Base.{Base}
+pub use Rattle.pool_journal.specs.declared.fields.FieldFault.{FieldFault}
+pub use Rattle.pool_journal.specs.declared.fields.FieldFault.TheVariants.{Broken, NoMemory}
 pub use Rattle.site_types.specs.Fields.{Field, byte_field}
-use Rattle.site_types.specs.declared.image.Kind.{Kind}
-use Rattle.site_types.specs.declared.image.Kind.TheVariants.{Full, Differential, Cumulative}
-use Rattle.site_types.specs.declared.image.Base.{Base}
 use Rattle.site_types.specs.declared.image.Base.TheVariants as base
-use Rattle.pool_journal.specs.declared.fields.FieldFault.{FieldFault}
-use Rattle.pool_journal.specs.declared.fields.FieldFault.TheVariants.{Broken, NoMemory}
 
 -- how each field is spelled
 abbrev pub string : List ℕ → List ℕ

@@ -3,7 +3,7 @@ use Rattle.std.specs.Prelude.{◌≡◌, ◌≢◌, ℕ, suc, zero, ◌+◌, ◌
 use Rattle.std.specs.List.{starts_with, common_prefix_len}
 use Rattle.std.specs.Int.{w32, to_be_bytes, from_be_bytes}
 use Rattle.pool_journal.specs.Entries.{Record, record_of}
-use Rattle.pool_journal.specs.declared.records.Placed.{Placed}
+pub use Rattle.pool_journal.specs.declared.records.Placed.{Placed}
 
 abbrev pub header : List ℕ
 header = codes "NBDESK VAULT 001"

@@ -3,8 +3,7 @@ use Rattle.std.specs.Prelude.{◌≡◌, ◌≢◌, ◌⊎◌, ℕ, ◌+◌, ◌
 use Rattle.vault_disk.specs.Disk.{Disk, Image, During}
 use Rattle.vault_disk.specs.Steps.{IsDurable}
 use Rattle.pool_journal.specs.Entries.{Record, spelled_entry}
-use Rattle.pool_journal.specs.Records.{Found, Reading, found, broken, foreign, reading, placed, Holds}
-use Rattle.pool_journal.specs.declared.records.Placed.{Placed}
+use Rattle.pool_journal.specs.Records.{Found, Reading, found, broken, foreign, reading, placed, Holds, Placed}
 use Rattle.pool_journal.specs.declared.fault.JournalFault.{JournalFault}
 use Rattle.pool_journal.specs.declared.fault.JournalFault.TheVariants.{NoMemory, DiskFault, NotAVault}
 

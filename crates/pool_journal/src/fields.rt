@@ -1,6 +1,7 @@
 // Reading the fields of a record.
 ghost use Rattle.std.specs.Prelude.{◌≡◌};
 ghost use Rattle.site_types.specs.Fields.{borrowed};
+ghost use Rattle.pool_journal.specs.declared.fields.FieldFault.TheVariants as fault;
 ghost use Rattle.pool_journal.specs.Fields.{string_field, strings_field, name_field, kind_field, base_field, IsField};
 
 use site_types::{Base, Ended, Fields, Kind, ListOf, Name, NoMemory, Text};
@@ -15,9 +16,6 @@ pub enum FieldFault {
 }
 
 impl From<NoMemory> for FieldFault {
-    ghost use Rattle.std.specs.Prelude.{◌≡◌};
-    ghost use Rattle.pool_journal.specs.declared.fields.FieldFault.TheVariants as fault;
-
     ghost from_gives = { λ _ e. e ≡ fault.NoMemory };
 
     fn from(_: NoMemory) -> FieldFault {
@@ -26,9 +24,6 @@ impl From<NoMemory> for FieldFault {
 }
 
 impl<T: Drop> From<AllocFailed<T>> for FieldFault {
-    ghost use Rattle.std.specs.Prelude.{◌≡◌};
-    ghost use Rattle.pool_journal.specs.declared.fields.FieldFault.TheVariants as fault;
-
     ghost from_gives = { λ _ e. e ≡ fault.NoMemory };
 
     fn from(_: AllocFailed<T>) -> FieldFault {
@@ -37,9 +32,6 @@ impl<T: Drop> From<AllocFailed<T>> for FieldFault {
 }
 
 impl From<Ended> for FieldFault {
-    ghost use Rattle.std.specs.Prelude.{◌≡◌};
-    ghost use Rattle.pool_journal.specs.declared.fields.FieldFault.TheVariants as fault;
-
     ghost from_gives = { λ _ e. e ≡ fault.Broken };
 
     fn from(_: Ended) -> FieldFault {

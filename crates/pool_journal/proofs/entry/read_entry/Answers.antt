@@ -1,6 +1,6 @@
 use Rattle.std.proofs.Common.{refl, arith, ◌∙◌, ap, sym, ℕ, List, Some}
 use Rattle.pool_journal.specs.Fields.{byte_field}
-use Rattle.pool_journal.proofs.EntryLemmas.{whole_image_read}
+use Rattle.pool_journal.proofs.FieldLemmas.{whole_image_read}
 use Rattle.pool_journal.proofs.Suffixes.{fields_end, no_longer}
 use Rattle.pool_journal.proofs.entry.read_entry.Goals as goal
 

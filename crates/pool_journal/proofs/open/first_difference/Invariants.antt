@@ -1,5 +1,4 @@
-use Rattle.std.proofs.Common.{◌≡◌, ◌+◌, nat_eq, drop}
-use Rattle.std.specs.List.{common_prefix_len}
+use Rattle.pool_journal.proofs.Common.{◌≡◌, ◌+◌, nat_eq, drop, common_prefix_len}
 use Rattle.pool_journal.proofs.open.first_difference.Given as goal
 
 abbrev pub invariant-loop-at : goal.invariant-loop-at

@@ -1,5 +1,5 @@
 use Rattle.pool_journal.specs.Entries.{spelled_id, spelled_names, spelled_kind_and_base, spelled_lifecycle, spelled_longs}
-use Rattle.pool_journal.proofs.EntryLemmas.{five_pushed}
+use Rattle.pool_journal.proofs.FieldLemmas.{five_pushed}
 use Rattle.pool_journal.proofs.spelling.push_image.Goals as goal
 
 pub returns-clause-spelled : goal.returns-clause-spelled

@@ -1,7 +1,7 @@
-use Rattle.std.proofs.Common.{◌≡◌, slice_index_or, sym, subst, length, ℕ, List, ◌<◌, ◌^◌}
-use Rattle.std.proofs.lemmas.List.{append-nil}
-use Rattle.pool_journal.proofs.Lines.{short_at, pushed_more, pushed_all}
+use Rattle.std.proofs.Common.{◌≡◌, slice_index_or, sym, subst, length, ℕ, List, ◌<◌, ◌^◌, append-nil, take_all, ◌∙◌, ◌++◌, ap}
+use Rattle.pool_journal.proofs.Lines.{short_at, pushed_more}
 use Rattle.pool_journal.proofs.spelling.push_strings.Goals as goal
+use Rattle.pool_journal.specs.Fields.{strings}
 
 pub loop-text-init : goal.loop-text-init
 loop-text-init c = sym (append-nil c.args.out.now.items)
@@ -15,4 +15,4 @@ loop-text-preserved c =
     c.loop-text.invariant c.in_ok-push_string.ensures
 
 pub returns : goal.returns
-returns c = pushed_all c.loop-text.out.items c.args.out.now.items c.args.texts.now c.loop-text.text-index c.loop-text-test.false c.loop-text.invariant
+returns c = c.loop-text.invariant ∙ ap (λ (texts : List (List ℕ)). c.args.out.now.items ++ strings texts) (take_all c.loop-text.text-index c.args.texts.now c.loop-text-test.false)

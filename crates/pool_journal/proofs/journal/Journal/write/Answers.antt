@@ -1,34 +1,30 @@
 use Rattle.std.proofs.Common.{arith, ◌≡◌, ◌∙◌, ◌+◌, ◌-◌, ◌<◌, ◌^◌, min, ℕ, length, ap, sym}
 use Rattle.pool_journal.proofs.Append.{first_stop, second_stop, done}
-use Rattle.pool_journal.proofs.Bytes.{staged_record, length_staged}
-use Rattle.pool_journal.specs.Entries.{body_of}
+use Rattle.pool_journal.proofs.Bytes.{length_staged}
+use Rattle.pool_journal.specs.Entries.{body_of, staged_record}
 use Rattle.pool_journal.proofs.journal.Journal.write.Goals as goal
 
 pub returns-in_err-write_durably-clause-stops : goal.returns-in_err-write_durably-clause-stops
 returns-in_err-write_durably-clause-stops g c r staged fs told rest =
-    let short = rest.short in
-    first_stop fs r _ staged.writable _ rest _ _ _ _ (omega (arith, short)) (c.deref.ensures.value ∙ c.staged.view_is ∙ staged.is) (c.write_durably.ensures.wrote told)
+    first_stop fs r _ staged.writable _ rest _ _ _ _ (omega (arith, rest.short)) (c.deref.ensures.value ∙ c.staged.view_is ∙ staged.is) (c.write_durably.ensures.wrote told)
 
 pub returns-in_err-write_durably-2-clause-stops : goal.returns-in_err-write_durably-2-clause-stops
 returns-in_err-write_durably-2-clause-stops g c r staged fs told rest =
-    let short = rest.short in
-    second_stop fs r _ staged.writable _ rest _ _ _ _ _ _ _ staged.spellable (omega (arith, short)) c.self.view_is (c.deref.ensures.value ∙ c.staged.view_is ∙ staged.is)
+    second_stop fs r _ staged.writable _ rest _ _ _ _ _ _ _ staged.spellable (omega (arith, rest.short)) c.self.view_is (c.deref.ensures.value ∙ c.staged.view_is ∙ staged.is)
     (c.in_ok-write_durably.ensures.wrote told) c.write_durably.ensures.same (c.write_durably-2.ensures.wrote (c.write_durably.ensures.same.tells told))
 
 pub returns-clause-stops : goal.returns-clause-stops
 returns-clause-stops g c r staged fs told rest =
-    let short = rest.short in
-    second_stop fs r _ staged.writable _ rest _ _ _ _ _ _ _ staged.spellable (omega (arith, short)) c.self.view_is (c.deref.ensures.value ∙ c.staged.view_is ∙ staged.is)
+    second_stop fs r _ staged.writable _ rest _ _ _ _ _ _ _ staged.spellable (omega (arith, rest.short)) c.self.view_is (c.deref.ensures.value ∙ c.staged.view_is ∙ staged.is)
     (c.in_ok-write_durably.ensures.wrote told) c.write_durably.ensures.same (c.write_durably-2.ensures.wrote (c.write_durably.ensures.same.tells told))
 
 pub returns-clause-appended : goal.returns-clause-appended
 returns-clause-appended g c r staged fs told rest =
-    let short = rest.short in
     let bytes_are : c.deref.result.now ≡ staged_record (body_of r) = c.deref.ensures.value ∙ c.staged.view_is ∙ staged.is in
     let size = sym c.deref.ensures.len ∙ ap length bytes_are ∙ length_staged (body_of r) in
-    done fs r _ staged.writable _ rest _ _ _ _ _ _ _ _ staged.spellable (omega (arith, short)) c.self.view_is bytes_are
+    done fs r _ staged.writable _ rest _ _ _ _ _ _ _ _ staged.spellable (omega (arith, rest.short)) c.self.view_is bytes_are
     (c.in_ok-write_durably.ensures.wrote told) (c.in_ok-write_durably-2.ensures.wrote (c.write_durably.ensures.same.tells told))
-    (ends _ _ _ _ _ _ c.saturating_add-self-inside.ensures c.self.view_is c.len.ensures size (omega (arith, short, staged.writable.0)))
+    (ends _ _ _ _ _ _ c.saturating_add-self-inside.ensures c.self.view_is c.len.ensures size (omega (arith, rest.short, staged.writable.0)))
   where
     ends : (end now at count n : ℕ) (m : ℕ) → end ≡ min (now + count) (2 ^ 64 - 1) → now ≡ at → count ≡ n → n ≡ 5 + m → at + 5 + m < 2 ^ 64 → end ≡ at + 5 + m
     ends end now at count n m is now_is count_is n_is small = omega arith
