@@ -178,14 +178,17 @@ module _ (index : Index) (request : Request) (payload : List ℕ) (size moment :
   seen_so : IsDecision start request payload moment d
   seen_so = decided_seen index request payload size moment d size_is decided
 
-  -- no image is sealed: it is refused
-  refused_on : (s : State) → IsDecision s request payload moment d → ((body : JobBody) → d.change ≢ SealNow body) → IsStepRefusal d.answer × IsRefused s request payload moment d.answer
-  refused_on s here other = refused_so s request class payload moment d asks.is here d.answer (some_so s request class payload moment d asks.is here (λ answer_is change_is. other (backup_body asked moment s) change_is))
+  -- no image is sealed, or nothing is done: it is refused
+  abbrev pub SealsNothing : Type 0
+  SealsNothing = (line : List ℕ) (body : JobBody) → d.answer ≡ Done line → d.change ≢ SealNow body
 
-  pub refusal_plain : ((body : JobBody) → d.change ≢ SealNow body) → IsStepRefusal d.answer
+  refused_on : (s : State) → IsDecision s request payload moment d → SealsNothing → IsStepRefusal d.answer × IsRefused s request payload moment d.answer
+  refused_on s here other = refused_so s request class payload moment d asks.is here d.answer (some_so s request class payload moment d asks.is here (λ answer_is change_is. other _ (backup_body asked moment s) answer_is change_is))
+
+  pub refusal_plain : SealsNothing → IsStepRefusal d.answer
   refusal_plain other = (refused_on start seen_so other).0
 
-  pub refused_here : ((body : JobBody) → d.change ≢ SealNow body) → (records : List Found) (images : List Image) (stored : List Stored) → Remembers records index images → IsRefused (built index.site images stored) request payload moment d.answer
+  pub refused_here : SealsNothing → (records : List Found) (images : List Image) (stored : List Stored) → Remembers records index images → IsRefused (built index.site images stored) request payload moment d.answer
   refused_here other records images stored remembers =
       (refused_on (built index.site images stored) (decided_on index request payload size moment d size_is decided images stored remembers.listed remembers.sized) other).1
 
@@ -199,9 +202,6 @@ module _ (index : Index) (request : Request) (payload : List ℕ) (size moment :
 
     answer_on : (s : State) → IsDecision s request payload moment d → d.answer ≡ (backup_done asked payload moment s).0
     answer_on s here = (passed_so s request class payload moment d asks.is here (passed_on s here)).0
-
-    pub done_here : (line : List ℕ) × (d.answer ≡ Done line)
-    done_here = (_, answer_on start seen_so)
 
     pub length_here : (whole_of body moment).length ≡ length payload
     length_here = ap (λ (b : JobBody). (whole_of b moment).length) (body_on start seen_so)

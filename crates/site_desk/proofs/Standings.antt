@@ -7,7 +7,7 @@ use Rattle.vault_disk.specs.Steps.{Rests}
 use Rattle.vault_disk.proofs.Moments.{weaker, started}
 use Rattle.pool_journal.specs.Entries.{Record}
 use Rattle.pool_journal.specs.Records.{Found, Reading, found, reading, Holds}
-use Rattle.pool_journal.specs.Stops.{FromBefore, with_one, IsBeforeOrAfter, Stops, Appending, Appended, OpenStops, SameReading}
+use Rattle.pool_journal.specs.Stops.{FromBefore, with_one, IsBeforeOrAfter, Stops, Appending, Appended, Leaves, OpenStops, SameReading}
 use Rattle.desk_model.specs.State.{State, initial, durable}
 use Rattle.site_desk.specs.Stands.{apply, applied_from, applied, stood, stands, Standing, StandsFor, Between, Opens}
 use Rattle.site_desk.specs.Desk.{KeptState, KeptMore}
@@ -60,10 +60,26 @@ still_kept old new end s rests kept = record {
   made = kept.made;
 }
 
+-- what reads the same stands for the same
 pub opens : (old new : Disk) → OpenStops old new → Opens old new
-opens old new stops =
-    let same : (c : DiskImage) → old.may_leave c ⊎ SameReading old c → old.may_leave c ⊎ (stands c ≡ stands old.seen) = λ c. ⊎_elim (λ left. inl left) (λ from. inr (ap (λ (r : Reading). result_ok (stood r)) from.inside)) in
-    record {
-      left = λ c left. same c (stops.left c left);
-      during = weaker old new (λ c b. (old.may_leave c ⊎ SameReading old c) × (b ≡ old.sent)) (λ c b. (old.may_leave c ⊎ (stands c ≡ stands old.seen)) × (b ≡ old.sent)) (λ c b left. (same c left.0, left.1)) stops.during;
-    }
+opens old new (inl unsynced) = inl unsynced
+opens old new (inr synced) =
+    let same : (c : DiskImage) → SameReading old c → stands c ≡ stands old.seen = λ c from. ap (λ (r : Reading). result_ok (stood r)) from.inside in
+    let either : (c : DiskImage) → old.may_leave c ⊎ SameReading old c → old.may_leave c ⊎ (stands c ≡ stands old.seen) = λ c. ⊎_elim (λ left. inl left) (λ from. inr (same c from)) in
+    inr (record {
+      leaves = record {
+        left = λ c left. either c (synced.leaves.left c left);
+        during = weaker old new (λ c b. (old.may_leave c ⊎ SameReading old c) × (b ≡ old.sent)) (λ c b. (old.may_leave c ⊎ (stands c ≡ stands old.seen)) × (b ≡ old.sent)) (λ c b left. (either c left.0, left.1)) synced.leaves.during;
+      };
+      since = synced.since;
+      within = synced.within;
+      from_then = λ c b left. let then = synced.from_then c b left in (same c then.0, then.1);
+    })
+
+-- at each moment it leaves the one or the other
+pub opens_so : (old new : Disk) → Opens old new → Leaves (λ c. old.may_leave c ⊎ (stands c ≡ stands old.seen)) old new
+opens_so old new (inl unsynced) = record {
+  left = λ c left. inl (unsynced.left c left);
+  during = weaker old new (λ c b. old.may_leave c × (b ≡ old.sent)) (λ c b. (old.may_leave c ⊎ (stands c ≡ stands old.seen)) × (b ≡ old.sent)) (λ c b left. (inl left.0, left.1)) unsynced.during;
+}
+opens_so old new (inr synced) = synced.leaves

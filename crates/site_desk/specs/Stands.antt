@@ -10,6 +10,7 @@ use Rattle.pool_journal.specs.declared.entry.Entry.TheVariants as entry
 use Rattle.pool_journal.specs.declared.entry.WholeImage.{WholeImage}
 use Rattle.pool_journal.specs.Entries.{Record}
 use Rattle.pool_journal.specs.Records.{Found, Reading, found, broken, foreign, reading}
+use Rattle.pool_journal.specs.Stops.{OpensTo}
 use Rattle.site_types.specs.Limits.{last_moment}
 use Rattle.site_types.specs.Lines.{line_of, read_line}
 use Rattle.site_types.specs.declared.image.ImageRecord.{ImageRecord}
@@ -112,7 +113,6 @@ pub record Between (s t : State) (old new : Disk) : Type 0 where
   pub left : (c : DiskImage) → new.may_leave c → StandsFor s t c
   pub during : During old new (λ c b. StandsFor s t c × (b ≡ old.sent))
 
--- an opening leaves what could be left before, or what stands for the same
-pub record Opens (old new : Disk) : Type 0 where
-  pub left : (c : DiskImage) → new.may_leave c → old.may_leave c ⊎ (stands c ≡ stands old.seen)
-  pub during : During old new (λ c b. (old.may_leave c ⊎ (stands c ≡ stands old.seen)) × (b ≡ old.sent))
+-- an opening leaves what could be left before, until the first sync of file 0 has succeeded, and from then on what stands for the same
+abbrev pub Opens : Disk → Disk → Type 0
+Opens old new = OpensTo (λ c. stands c ≡ stands old.seen) old new
