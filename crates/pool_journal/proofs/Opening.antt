@@ -33,21 +33,6 @@ module _ (old mid : Disk) (settled : Settled old mid) where
     during = weaker old mid (Now old) (λ c b. SameReading old c × (b ≡ old.sent)) (λ c b left. (same_left c left.0, left.1)) settled.during;
   }
 
-  -- a new journal was begun
-  pub begin_stops : {T E : Type 0} (now : Disk) (r : Result T E) → length (mid.seen 0) ≤ 17 → Begins mid now r → Leaves (SameReading old) old now
-  begin_stops now r short begins =
-      let same : (c : Image) → FromBefore mid (λ bytes. length bytes ≤ 17) c → SameReading old c = λ c from. record {
-        from = from.from;
-        left = settled.left from.from from.left;
-        others = from.others;
-        inside = few (c 0) from.inside ∙ sym (few (old.seen 0) (subst (λ (l : List ℕ). length l ≤ 17) (settled.seen 0) short));
-      } in
-      record {
-        left = λ c left. same c (begins.left c left);
-        during = goes_on old mid now (λ c b. SameReading old c × (b ≡ old.sent)) looked_stops.during
-            (weaker mid now (λ c b. FromBefore mid (λ bytes. length bytes ≤ 17) c × (b ≡ mid.sent)) (λ c b. SameReading old c × (b ≡ old.sent)) (λ c b left. (same c left.0, left.1 ∙ settled.sent)) begins.during);
-      }
-
 -- the first sync failed
 pub unsynced : {T E : Type 0} (old now : Disk) (e : E) → Synced {T = T} {E = E} 0 old now (Err e) → IsSame old now → OpenStops old now
 unsynced old now e synced same = inl (record {
