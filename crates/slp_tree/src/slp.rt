@@ -127,7 +127,6 @@ impl Slp {
     /// The first waiting child of an operation that is complete, and None exactly where there is none: then the operation
     /// is no longer needed.
     pub fn needed(&self, states: &[OpState], op: u8) -> Option<u8>
-        requires { length states.now ≡ length self.now.operations }
         ensures { result ≡ needed self.now.operations states.now op }
     {
         if !completed(states, usize::from(op)) {

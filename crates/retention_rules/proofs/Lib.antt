@@ -1,0 +1,4 @@
+pub mod Rows
+pub mod StableLemmas
+pub mod ChoiceLemmas
+pub mod PrefixLemmas

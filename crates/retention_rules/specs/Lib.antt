@@ -1,0 +1,3 @@
+pub mod Eligible
+pub mod Marks
+pub mod Cleanup
