@@ -1,7 +1,7 @@
 -- The shortest prefix of a unit's candidates that is enough, one candidate after another.
-use Rattle.std.proofs.Common.{◌≡◌, ◌<◌, ◌≤◌, ◌+◌, ◌-◌, ℕ, List, [], ◌∷◌, ◌++◌, map, drop, length, get_or, append_assoc, append-nil, Bool, true, false, cond, refl, sym, ◌∙◌, ap, arith, Option, Some, None}
+use Rattle.std.proofs.Common.{◌≡◌, ◌<◌, ◌+◌, ◌-◌, ℕ, List, [], ◌∷◌, ◌++◌, map, drop, length, get_or, append_assoc, Bool, true, false, cond, refl, sym, ◌∙◌, ap, arith, Option, Some, None}
 use Rattle.std.specs.Prelude.{filter, find, option_map, unwrap_or}
-use Rattle.std.proofs.lemmas.List.{drop_more, drop_all}
+use Rattle.std.proofs.lemmas.List.{drop_more}
 use Rattle.std.proofs.lemmas.List.Sums.{sum_by-cons}
 use Rattle.site_types.specs.declared.unit.Unit.{Unit as StorageUnit}
 use Rattle.retention_rules.specs.Marks.{is_low_met}
@@ -39,17 +39,6 @@ module _ (unit : StorageUnit) where
       less_both : (n a b : ℕ) → n - (a + b) ≡ n - a - b
       less_both n a b = omega arith
 
-  none_enough : (used : ℕ) → enough_of unit used [] ≡ []
-  none_enough used = at (meets used [])
-    where
-      at : (b : Bool) → unwrap_or {T = List Kept} (cond b (Some []) None) [] ≡ []
-      at true = refl
-      at false = refl
-
-  enough_met : (used : ℕ) (ks : List Kept) → is_low_met used unit.capacity unit.low ≡ true → enough_of unit used ks ≡ []
-  enough_met used [] is = none_enough used
-  enough_met used (k ∷ ks) is = λ j. unwrap_or (cond ((meets_now used ∙ is) j) (Some []) (find (meets used) (map (λ (p : List Kept). k ∷ p) (prefixes ks)))) (k ∷ ks)
-
   enough_more : (used : ℕ) (k : Kept) (ks : List Kept) → is_on unit.name k ≡ true → is_low_met used unit.capacity unit.low ≡ false → enough_of unit used (k ∷ ks) ≡ k ∷ enough_of unit (used - k.image.length) ks
   enough_more used k ks on is =
       (λ j. unwrap_or (cond ((meets_now used ∙ is) j) (Some []) (find (meets used) (map (λ (p : List Kept). k ∷ p) (prefixes ks)))) (k ∷ ks))
@@ -70,21 +59,12 @@ module _ (unit : StorageUnit) where
         ap (filter (is_on unit.name)) (drop_more candidates i k lt ∙ ap (λ (m : Kept). m ∷ drop (i + 1) candidates) (sym is))
         ∙ (λ j. cond (test j) (k ∷ later) later)
 
-    pub candidate_pushed : (k : Kept) (after : List Kept) → i < length candidates → k ≡ get_or candidates i k → is_on unit.name k ≡ true → is_low_met used unit.capacity unit.low ≡ false → after ≡ before ++ k ∷ [] → after ++ enough_of unit (used - k.image.length) later ≡ whole
-    candidate_pushed k after lt is on unmet pushed =
-        ap (λ (l : List Kept). l ++ enough_of unit (used - k.image.length) later) pushed
+    pub candidate_pushed : (k : Kept) (after : List Kept) (left : ℕ) → i < length candidates → k ≡ get_or candidates i k → is_on unit.name k ≡ true → is_low_met used unit.capacity unit.low ≡ false → after ≡ before ++ k ∷ [] → left ≡ used - k.image.length → after ++ enough_of unit left later ≡ whole
+    candidate_pushed k after left lt is on unmet pushed less =
+        (λ j. pushed j ++ enough_of unit (less j) later)
         ∙ append_assoc before (k ∷ []) (enough_of unit (used - k.image.length) later)
         ∙ ap (λ (l : List Kept). before ++ l) (sym (enough_more used k later on unmet) ∙ ap (enough_of unit used) (sym (here k true lt is on)))
         ∙ so_far
 
     pub candidate_passed : (k : Kept) → i < length candidates → k ≡ get_or candidates i k → is_on unit.name k ≡ false → before ++ enough_of unit used later ≡ whole
     candidate_passed k lt is off = ap (λ (l : List Kept). before ++ enough_of unit used l) (sym (here k false lt is off)) ∙ so_far
-
-    pub mark_met : is_low_met used unit.capacity unit.low ≡ true → before ≡ whole
-    mark_met is = sym (append-nil before) ∙ ap (λ (l : List Kept). before ++ l) (sym (enough_met used (filter (is_on unit.name) (drop i candidates)) is)) ∙ so_far
-
-    pub candidates_done : length candidates ≤ i → before ≡ whole
-    candidates_done past =
-        sym (append-nil before)
-        ∙ ap (λ (l : List Kept). before ++ l) (sym (ap (λ (l : List Kept). enough_of unit used (filter (is_on unit.name) l)) (drop_all i candidates past) ∙ none_enough used))
-        ∙ so_far
