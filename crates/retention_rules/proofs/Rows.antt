@@ -1,5 +1,5 @@
 -- Rows of retention and cleanups, worked out on the definitions: both sides of each equation compute to one value.
-use Rattle.std.proofs.Common.{◌≡◌, ℕ, List, refl, [], ◌∷◌, codes, Bool, true, false}
+use Rattle.std.proofs.Common.{◌≡◌, ◌+◌, ℕ, List, refl, [], ◌∷◌, codes, Bool, true, false}
 use Rattle.site_types.specs.declared.id.BackupId.{BackupId}
 use Rattle.site_types.specs.declared.image.Base.TheVariants as base
 use Rattle.site_types.specs.declared.image.CopyRecord.{CopyRecord}
@@ -195,5 +195,5 @@ none_waits = refl
 
 -- What a list begins with.
 
-three_prefixes : prefixes (1 ∷ 2 ∷ []) ≡ [] ∷ (1 ∷ []) ∷ (1 ∷ 2 ∷ []) ∷ []
+three_prefixes : prefixes {X = ℕ} (1 ∷ 2 ∷ []) ≡ [] ∷ (1 ∷ []) ∷ (1 ∷ 2 ∷ []) ∷ []
 three_prefixes = refl
