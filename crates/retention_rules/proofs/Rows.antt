@@ -1,6 +1,5 @@
 -- Rows of retention and cleanups, worked out on the definitions: both sides of each equation compute to one value.
 use Rattle.std.proofs.Common.{◌≡◌, ◌+◌, ℕ, List, refl, [], ◌∷◌, codes, Bool, true, false}
-use Rattle.site_types.specs.declared.id.BackupId.{BackupId}
 use Rattle.site_types.specs.declared.image.Base.TheVariants as base
 use Rattle.site_types.specs.declared.image.CopyRecord.{CopyRecord}
 use Rattle.site_types.specs.declared.image.Expiry.{Expiry}
