@@ -27,13 +27,15 @@ fn unit(rt: &(impl Abort + Alloc<A = Global>)) -> Result<Unit, NoMemory> {
 
 // A backup that is kept as long as there is room.
 fn tree(rt: &(impl Abort + Alloc<A = Global>)) -> Result<Slp, NoMemory> {
-    let operations = vec![in rt.alloc(); Operation {
-        backup: true,
-        source: 0,
-        unit: name(rt, b"t")?,
-        retention: Retention::Capacity(0),
-        windows: Windows::Always,
-    }]?;
+    let operations = vec![in rt.alloc();
+        Operation {
+            backup: true,
+            source: 0,
+            unit: name(rt, b"t")?,
+            retention: Retention::Capacity(0),
+            windows: Windows::Always,
+        },
+    ]?;
     let units = vec![in rt.alloc(); name(rt, b"t")?]?;
     match Slp::new(rt.alloc(), 0, operations, &units) {
         Ok(slp) => Ok(slp),
@@ -47,12 +49,14 @@ fn image(
     client: &[u8],
     time: u64,
 ) -> Result<ImageRecord, NoMemory> {
-    let copies = vec![in rt.alloc(); CopyRecord {
-        number: 1,
-        unit: name(rt, b"t")?,
-        completed: time,
-        expiry: Expiry::Rule,
-    }]?;
+    let copies = vec![in rt.alloc();
+        CopyRecord {
+            number: 1,
+            unit: name(rt, b"t")?,
+            completed: time,
+            expiry: Expiry::Rule,
+        },
+    ]?;
     Ok(ImageRecord {
         id: BackupId {
             client: name(rt, client)?,
