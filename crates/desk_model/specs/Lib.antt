@@ -6,3 +6,4 @@ pub mod Backups
 pub mod Settings
 pub mod Step
 pub mod Replay
+pub mod Sound
