@@ -3,5 +3,7 @@
 #![tactic(auto)]
 
 mod site;
+mod soundness;
 
 pub use site::Site;
+pub use soundness::{kept_copies_restore, states_are_sound};

@@ -18,28 +18,11 @@ use Rattle.site_desk.specs.Extents.{Adds, IsKeptAt}
 use Rattle.site_desk.specs.Index.{TimesBelow, IsWhole, Remembers}
 use Rattle.site_desk.specs.declared.extents.Extent.{Extent}
 use Rattle.site_desk.specs.declared.index.Index.{Index}
-use Rattle.site_desk.proofs.ExtentLemmas.{same_is, catalogued-with}
-use Rattle.site_desk.proofs.NamedLemmas.{named-put}
+use Rattle.desk_model.proofs.ImageLists.{entries-with, has_entry, each-with, same_is}
+use Rattle.desk_model.proofs.NamedLemmas.{named-put}
+use Rattle.site_desk.proofs.ExtentLemmas.{catalogued-with}
 
 -- The catalogue.
-
-pub entries-with : (new : Image) (images : List Image) → entries (with_image new images) ≡ with_record new.entry (entries images)
-entries-with new [] = refl
-entries-with new (i ∷ images) = at (is_before new.entry.id i.entry.id) (entries-with new images)
-  where
-    at : (b : Bool) → entries (with_image new images) ≡ with_record new.entry (entries images)
-        → entries (if b then new ∷ i ∷ images else i ∷ with_image new images) ≡ (if b then new.entry ∷ i.entry ∷ entries images else i.entry ∷ with_record new.entry (entries images))
-    at true more = refl
-    at false more = ap (λ (l : List ImageRecord). i.entry ∷ l) more
-
--- an image is there exactly where the catalogue has it
-pub has_entry : (id : BackupId) (images : List Image) → is_some (record_named id (entries images)) ≡ has_image id images
-has_entry id [] = refl
-has_entry id (i ∷ images) = at (same_id i.entry.id id) (has_entry id images)
-  where
-    at : (b : Bool) → is_some (record_named id (entries images)) ≡ has_image id images → is_some (if b then Some i.entry else record_named id (entries images)) ≡ (b || has_image id images)
-    at true more = refl
-    at false more = more
 
 pub has_image-with : (id : BackupId) (new : Image) (images : List Image) → has_image id (with_image new images) ≡ (same_id new.entry.id id || has_image id images)
 has_image-with id new [] = refl
@@ -53,18 +36,6 @@ has_image-with id new (i ∷ images) = at (is_before new.entry.id i.entry.id) (h
         → has_image id (if b then new ∷ i ∷ images else i ∷ with_image new images) ≡ (same_id new.entry.id id || (same_id i.entry.id id || has_image id images))
     at true more = refl
     at false more = swapped (same_id new.entry.id id) (same_id i.entry.id id) (has_image id images) (has_image id (with_image new images)) more
-
--- what holds of the images and of a new one holds of all
-each-with : (P : Image → Type 0) (new : Image) (images : List Image) → P new → ((i : Image) → Contains images i → P i) → (i : Image) → Contains (with_image new images) i → P i
-each-with P new [] here each i (zero, lt, is) = subst P is here
-each-with P new [] here each i (suc k, lt, is) = absurd (omega arith)
-each-with P new (x ∷ images) here each one among = at (is_before new.entry.id x.entry.id) (each-with P new images here (λ i there. each i (suc there.0, omega (arith, there.1), there.2))) one among
-  where
-    at : (b : Bool) → ((i : Image) → Contains (with_image new images) i → P i) → (i : Image) → Contains (if b then new ∷ x ∷ images else x ∷ with_image new images) i → P i
-    at true more i (zero, lt, is) = subst P is here
-    at true more i (suc k, lt, is) = each i (k, omega arith, is)
-    at false more i (zero, lt, is) = each i (zero, omega arith, is)
-    at false more i (suc k, lt, is) = more i (k, omega arith, is)
 
 -- The clients.
 

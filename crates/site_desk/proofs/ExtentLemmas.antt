@@ -15,6 +15,7 @@ use Rattle.site_types.specs.declared.id.BackupId.{BackupId}
 use Rattle.pool_journal.specs.Records.{Found}
 use Rattle.image_catalogue.specs.Images.{same_id, is_before}
 use Rattle.desk_model.specs.State.{Image, has_image, image_named, with_image}
+use Rattle.desk_model.proofs.ImageLists.{same_is, same_self}
 use Rattle.site_desk.specs.Extents.{id_cmp, extent_of, Adds, IsKeptAt, IsKept, Catalogued}
 use Rattle.site_desk.specs.declared.extents.Extent.{Extent}
 
@@ -29,24 +30,6 @@ is_eq-nat a b = sym (unsigned_ties a b)
 -- ids compare alike exactly where they are the same
 pub at_same : (a b : BackupId) → is_at (id_cmp a) b ≡ same_id a b
 at_same a b = is_eq-then (slice_cmp nat_cmp a.client b.client) (nat_cmp a.time b.time) ∙ (λ i. is_eq-slice_cmp a.client b.client i && is_eq-nat a.time b.time i)
-
--- the same ids are equal
-pub same_is : (a b : BackupId) → same_id a b ≡ true → a ≡ b
-same_is a b same =
-    let parts = both_true (bytes_eq a.client b.client) (a.time == b.time) same in
-    let client : a.client ≡ b.client = (bytes_eq-Decides a.client b.client).0 parts.0 in
-    let time : a.time ≡ b.time = grind (arith, nat_tests, parts.1) in
-    λ i. record { client = client i; time = time i }
-  where
-    both_true : (x y : Bool) → (x && y) ≡ true → (x ≡ true) × (y ≡ true)
-    both_true true y is = (refl, is)
-    both_true false y is = absurd (cc is)
-
-pub same_self : (a : BackupId) → same_id a a ≡ true
-same_self a =
-    let client : bytes_eq a.client a.client ≡ true = (bytes_eq-Decides a.client a.client).1 refl in
-    let time : (a.time == a.time) ≡ true = grind (arith, nat_tests) in
-    λ i. client i && time i
 
 pub has_named : (id : BackupId) (images : List Image) → has_image id images ≡ is_some (image_named id images)
 has_named id [] = refl

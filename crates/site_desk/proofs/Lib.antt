@@ -5,7 +5,6 @@ pub mod ExtentLemmas
 pub mod ImageLemmas
 pub mod IndexLemmas
 pub mod Loading
-pub mod NamedLemmas
 pub mod SiteChanges
 pub mod SizedRecords
 pub mod Opening

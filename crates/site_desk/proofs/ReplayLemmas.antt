@@ -30,7 +30,8 @@ use Rattle.site_desk.specs.Index.{built, Remembers, IsSet, Makes}
 use Rattle.site_desk.specs.Replays.{HasLength, setting_as, setting_of, Reaches, IsReached}
 use Rattle.site_desk.specs.declared.extents.Extent.{Extent}
 use Rattle.site_desk.specs.declared.index.Index.{Index}
-use Rattle.site_desk.proofs.Admitting.{has_entry, admitted}
+use Rattle.desk_model.proofs.ImageLists.{has_entry}
+use Rattle.site_desk.proofs.Admitting.{admitted}
 
 -- A record as it was read.
 

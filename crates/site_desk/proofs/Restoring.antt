@@ -28,7 +28,7 @@ use Rattle.site_desk.specs.declared.extents.Extent.{Extent}
 use Rattle.site_desk.specs.declared.index.Index.{Index}
 use Rattle.site_desk.proofs.Standings.{standing, still_kept}
 use Rattle.site_desk.proofs.States.{state_is}
-use Rattle.site_desk.proofs.Admitting.{has_entry}
+use Rattle.desk_model.proofs.ImageLists.{has_entry}
 use Rattle.site_desk.proofs.ExtentLemmas.{has_named}
 use Rattle.site_desk.proofs.Deciding.{Decided, decided_on, decided_seen, refused_so, some_so, done_none, step_so}
 

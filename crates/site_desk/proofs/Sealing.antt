@@ -36,41 +36,9 @@ use Rattle.site_desk.specs.Steps.{backs_up, is_backup, IsTaken, IsReady, IsRefus
 use Rattle.site_desk.specs.declared.extents.Extent.{Extent}
 use Rattle.site_desk.specs.declared.index.Index.{Index}
 use Rattle.site_desk.proofs.IndexLemmas.{remembers_more}
-use Rattle.site_desk.proofs.NamedLemmas.{text_is}
+use Rattle.desk_model.proofs.NamedLemmas.{found_named}
+use Rattle.desk_model.proofs.Passing.{all_passed, there_is}
 use Rattle.site_desk.proofs.Deciding.{Decided, decided_on, decided_seen, refused_so, some_so, none_so, passed_so, step_so}
-
--- Nothing refuses it.
-
-abbrev ArePassed : List (Bool × Answer) → Type 0
-ArePassed [] = Unit {0}
-ArePassed (r ∷ rs) = (r.0 ≡ false) × ArePassed rs
-
-all_passed : (refusals : List (Bool × Answer)) → first_refusal refusals ≡ None → ArePassed refusals
-all_passed [] none = tt
-all_passed (r ∷ rs) none = at r.0 (all_passed rs) none
-  where
-    at : (b : Bool) → (first_refusal rs ≡ None → ArePassed rs) → (if b then Some r.1 else first_refusal rs) ≡ None → (b ≡ false) × ArePassed rs
-    at true later is = absurd (cc is)
-    at false later is = (refl, later is)
-
--- The policy that is found is there, under its name.
-
-module _ {A : Type 0} (name_of : A → List ℕ) (name : List ℕ) where
-  found_named : (xs : List A) (x : A) → named name_of name xs ≡ Some x → (name_of x ≡ name) × Contains xs x
-  found_named [] x is = absurd (cc is)
-  found_named (y ∷ ys) x is = at (bytes_eq (name_of y) name) refl (found_named ys x) is
-    where
-      at : (b : Bool) → bytes_eq (name_of y) name ≡ b → (named name_of name ys ≡ Some x → (name_of x ≡ name) × Contains ys x) → (if b then Some y else named name_of name ys) ≡ Some x → (name_of x ≡ name) × Contains (y ∷ ys) x
-      at true same later here =
-          let y_is : y ≡ x = cc here in
-          (ap name_of (sym y_is) ∙ text_is (name_of y) name same, (zero, omega arith, y_is))
-      at false differs later there =
-          let found = later there in
-          (found.0, (suc found.1.0, omega (arith, found.1.1), found.1.2))
-
-there_is : {A : Type 0} (o : Option A) → is_none o ≡ false → (x : A) × (o ≡ Some x)
-there_is None none = absurd (cc none)
-there_is (Some x) some = (x, refl)
 
 -- The latest version of a lifecycle is there, where there is one lifecycle.
 version_there : (name : List ℕ) (lifecycles : List Lifecycle) → lifecycles ≡ basic ∷ [] → is_some (latest_named name lifecycles) ≡ true → is_some (version_named name (unwrap_or (latest_named name lifecycles) 0) lifecycles) ≡ true

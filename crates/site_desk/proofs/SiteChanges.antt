@@ -30,13 +30,14 @@ use Rattle.desk_rules.proofs.SeenLemmas.{entries_seen}
 use Rattle.site_desk.specs.Index.{built, IsWhole, TimesBelow, Remembers, IsSet, SameExtents}
 use Rattle.std.specs.BTreeMap.{is_at}
 use Rattle.site_desk.specs.Extents.{Catalogued, extent_of, id_cmp, Adds, Removes}
-use Rattle.site_desk.proofs.Admitting.{entries-with, has_entry, has_image-with}
+use Rattle.desk_model.proofs.ImageLists.{entries-with, has_entry, same_is}
+use Rattle.site_desk.proofs.Admitting.{has_image-with}
 use Rattle.site_desk.proofs.Changing.{class_change}
 use Rattle.site_desk.proofs.Deciding.{none_so, some_so, passed_so}
-use Rattle.site_desk.proofs.ExtentLemmas.{at_same, same_is}
+use Rattle.site_desk.proofs.ExtentLemmas.{at_same}
 use Rattle.site_desk.specs.declared.extents.Extent.{Extent}
 use Rattle.site_desk.specs.declared.index.Index.{Index}
-use Rattle.site_desk.proofs.NamedLemmas.{named-put, named-without, has-changed, each-put, each-changed, each-without, text_is}
+use Rattle.desk_model.proofs.NamedLemmas.{named-put, named-without, has-changed, each-put, each-changed, each-without, text_is}
 
 -- What no refusal says.
 
