@@ -7,6 +7,7 @@ pub mod IndexLemmas
 pub mod Loading
 pub mod SiteChanges
 pub mod SizedRecords
+pub mod SoundImages
 pub mod Opening
 pub mod Refusing
 pub mod ReplayLemmas

@@ -9,7 +9,7 @@ use Rattle.desk_model.specs.State.{State}
 use Rattle.site_desk.specs.Stands.{unless_before, stood, opened, Standing}
 use Rattle.site_desk.specs.Index.{built, IsReplayed}
 use Rattle.site_desk.specs.Desk.{desk_state, Kept}
-use Rattle.site_desk.specs.Replays.{AreSized}
+use Rattle.site_desk.specs.Replays.{AreRead}
 use Rattle.site_desk.specs.declared.index.Index.{Index}
 use Rattle.site_desk.proofs.SizedRecords.{found_in, reading_sized}
 use Rattle.site_desk.proofs.Standings.{standing}
@@ -17,9 +17,9 @@ use Rattle.site_desk.proofs.States.{state_is}
 
 -- entries were replayed to this, whichever records they are of
 abbrev pub Replays : List Placed → Index → Option ℕ → Type 0
-Replays entries index bad = (records : List Found) → AreSized records → placed records ≡ entries → IsReplayed records index bad
+Replays entries index bad = (records : List Found) → AreRead records → placed records ≡ entries → IsReplayed records index bad
 
-unfit : (r : Reading) (d : Disk) (end at : ℕ) (entries : List Placed) (bad : Option ℕ) (index : Index) → AreSized (found_in r) → IsOpened r d end entries bad → Replays entries index (Some at) → stood r ≡ Err at
+unfit : (r : Reading) (d : Disk) (end at : ℕ) (entries : List Placed) (bad : Option ℕ) (index : Index) → AreRead (found_in r) → IsOpened r d end entries bad → Replays entries index (Some at) → stood r ≡ Err at
 unfit (found fs) d end at entries None index sized is replayed = replayed fs sized (sym is.0)
 unfit (found fs) d end at entries (Some b) index sized is replayed = absurd is
 unfit (broken fs b) d end at entries bad index sized is replayed = ap (unless_before b) (replayed fs sized (sym is.0))
@@ -28,7 +28,7 @@ unfit (foreign b) d end at entries bad index sized is replayed = absurd is
 pub unfit_opening : (bytes : List ℕ) (d : Disk) (end at : ℕ) (entries : List Placed) (bad : Option ℕ) (index : Index) → IsOpened (reading bytes) d end entries bad → Replays entries index (Some at) → stood (reading bytes) ≡ Err at
 unfit_opening bytes d end at entries bad index is replayed = unfit (reading bytes) d end at entries bad index (reading_sized bytes) is replayed
 
-broken_at : (r : Reading) (d : Disk) (end at : ℕ) (entries : List Placed) (index : Index) → AreSized (found_in r) → IsOpened r d end entries (Some at) → Replays entries index None → stood r ≡ Err at
+broken_at : (r : Reading) (d : Disk) (end at : ℕ) (entries : List Placed) (index : Index) → AreRead (found_in r) → IsOpened r d end entries (Some at) → Replays entries index None → stood r ≡ Err at
 broken_at (found fs) d end at entries index sized is replayed = absurd is
 broken_at (broken fs b) d end at entries index sized is replayed =
     let same : b ≡ at = cc (is.1) in
@@ -44,7 +44,7 @@ pub record Fine (r : Reading) (d : Disk) (end : ℕ) (index : Index) : Type 0 wh
   pub kept : Kept d end index
   pub stood_is : stood r ≡ Ok (built index.site kept.images kept.stored)
 
-fine : (r : Reading) (d : Disk) (end : ℕ) (entries : List Placed) (index : Index) → AreSized (found_in r) → IsOpened r d end entries None → Replays entries index None → Fine r d end index
+fine : (r : Reading) (d : Disk) (end : ℕ) (entries : List Placed) (index : Index) → AreRead (found_in r) → IsOpened r d end entries None → Replays entries index None → Fine r d end index
 fine (found fs) d end entries index sized is replayed =
     let makes = replayed fs sized (sym is.0) in
     record {

@@ -27,7 +27,7 @@ use Rattle.desk_model.specs.Settings.{is_setting, setting_refusals, stored_after
 use Rattle.site_desk.specs.Stands.{image_fits, whole_entry, whole_image, whole_unit, settled_as, settled_by, settled, apply_entry, apply, applied_from, applied}
 use Rattle.site_desk.specs.Extents.{Adds}
 use Rattle.site_desk.specs.Index.{built, Remembers, IsSet, Makes}
-use Rattle.site_desk.specs.Replays.{HasLength, setting_as, setting_of, Reaches, IsReached}
+use Rattle.site_desk.specs.Replays.{IsRead, setting_as, setting_of, Reaches, IsReached}
 use Rattle.site_desk.specs.declared.extents.Extent.{Extent}
 use Rattle.site_desk.specs.declared.index.Index.{Index}
 use Rattle.desk_model.proofs.ImageLists.{has_entry}
@@ -38,8 +38,8 @@ use Rattle.site_desk.proofs.Admitting.{admitted}
 pub entry_of : (f : Found) (p : Placed) → placed_of f ≡ p → f.is.entry ≡ p.entry
 entry_of f p is = ap (λ (q : Placed). q.entry) is
 
-pub length_of : (f : Found) (w : WholeImage) → f.is.entry ≡ entry.WholeImage w → HasLength f.is.entry (length f.is.bytes) → w.length ≡ length f.is.bytes
-length_of f w is has = subst (λ (e : Entry). HasLength e (length f.is.bytes)) is has
+pub length_of : (f : Found) (w : WholeImage) → f.is.entry ≡ entry.WholeImage w → IsRead f.is.entry (length f.is.bytes) → w.length ≡ length f.is.bytes
+length_of f w is has = (subst (λ (e : Entry). IsRead e (length f.is.bytes)) is has).0
 
 -- Images.
 

@@ -1,18 +1,23 @@
--- The records that are read of a journal: each image has as many bytes as its entry tells.
-use Rattle.std.proofs.Common.{◌≡◌, ℕ, zero, suc, ◌+◌, List, [], ◌∷◌, length, take, drop, Bool, true, false, Some, None, refl, subst, arith}
+-- The records that are read of a journal: each image has as many bytes as its entry tells, and its base is no moment 0.
+use Rattle.std.proofs.Common.{◌≡◌, ◌≢◌, ℕ, zero, suc, ◌+◌, List, [], ◌∷◌, length, take, drop, Bool, true, false, Some, None, refl, ◌∙◌, ap, subst, arith}
 use Rattle.std.specs.Prelude.{Option, if◌then◌else◌, ◌==◌, nat_eq, nat_le, nat_lt, option_and_then}
 use Rattle.std.proofs.lemmas.Bool.Decides.{nat_tests}
 use Rattle.std.specs.List.{starts_with, common_prefix_len}
+use Rattle.std.specs.Option.{option_map_or}
 use Rattle.std.specs.Int.{w32, from_be_bytes}
+use Rattle.site_types.specs.declared.image.Base.{Base}
+use Rattle.site_types.specs.declared.image.Kind.{Kind}
+use Rattle.site_types.specs.declared.image.Base.TheVariants as base
+use Rattle.site_types.proofs.OptionLemmas.{chained}
 use Rattle.pool_journal.specs.declared.entry.Entry.TheVariants as entry
 use Rattle.pool_journal.specs.declared.entry.WholeImage.{WholeImage}
-use Rattle.pool_journal.specs.Fields.{byte_field}
-use Rattle.pool_journal.specs.Entries.{Record, record_of, of_kind, without_bytes, with_bytes, settings_field, whole_image_field}
+use Rattle.pool_journal.specs.Fields.{byte_field, long_field, kind_field, base_field, base_code, base_coded}
+use Rattle.pool_journal.specs.Entries.{Record, record_of, of_kind, without_bytes, with_bytes, settings_field, id_field, made_under_field, taken_as_field, version_field, moments_field, whole_image_field}
 use Rattle.pool_journal.specs.Records.{header, Found, Reading, found, broken, foreign, with_record, records, reading}
-use Rattle.site_desk.specs.Replays.{HasLength, AreSized}
+use Rattle.site_desk.specs.Replays.{IsRead, AreRead}
 
 abbrev IsSized : Record → Type 0
-IsSized r = HasLength r.entry (length r.bytes)
+IsSized r = IsRead r.entry (length r.bytes)
 
 settings_sized : (o : Option (List (List ℕ) × List ℕ)) (r : Record) → option_and_then without_bytes o ≡ Some r → IsSized r
 settings_sized None r is = absurd (cc is)
@@ -21,15 +26,43 @@ settings_sized (Some (lines, [])) r is =
     subst IsSized same tt
 settings_sized (Some (lines, byte ∷ bytes)) r is = absurd (cc is)
 
-image_sized : (o : Option (WholeImage × List ℕ)) (r : Record) → option_and_then with_bytes o ≡ Some r → IsSized r
-image_sized None r is = absurd (cc is)
-image_sized (Some (image, bytes)) r is = at (image.length == length bytes) refl is
+none_apart : base.None ≡ base.Time 0 → ⊥
+none_apart is = cc is
+
+-- a base that is read is no moment 0, since that spells none
+base_read : (bytes : List ℕ) (b : Base) (rest : List ℕ) → base_field bytes ≡ Some (b, rest) → b ≢ base.Time 0
+base_read bytes b rest is =
+    let code = chained base_coded (long_field bytes) (b, rest) is in
+    at code.0.0 code.0.1 (code.0.0 == 0) refl code.2
+  where
+    at : (n : ℕ) (behind : List ℕ) (c : Bool) → (n == 0) ≡ c → if◌then◌else◌ {A = Option (Base × List ℕ)} c (Some (base.None, behind)) (Some (base.Time n, behind)) ≡ Some (b, rest) → b ≢ base.Time 0
+    at n behind true none made zero_too = none_apart (ap (λ (o : Option (Base × List ℕ)). option_map_or (λ p. p.0) o base.None) made ∙ zero_too)
+    at n behind false some made zero_too =
+        let n_is : n ≡ 0 = ap (λ (o : Option (Base × List ℕ)). option_map_or (λ p. base_code p.0) o 0) made ∙ ap base_code zero_too in
+        absurd (grind (arith, nat_tests, some, n_is))
+
+image_based : (bytes : List ℕ) (w : WholeImage) (rest : List ℕ) → whole_image_field bytes ≡ Some (w, rest) → w.base ≢ base.Time 0
+image_based bytes w rest is =
+    let a = chained _ (id_field bytes) (w, rest) is in
+    let b = chained _ (made_under_field a.0.1) (w, rest) a.2 in
+    let c = chained _ (taken_as_field b.0.1) (w, rest) b.2 in
+    let d = chained _ (version_field c.0.1) (w, rest) c.2 in
+    let e = chained _ (moments_field d.0.1) (w, rest) d.2 in
+    let kind = chained _ (kind_field b.0.1) c.0 c.1 in
+    let taken = chained _ (base_field kind.0.1) c.0 kind.2 in
+    let base_is : taken.0.0 ≡ w.base =
+    ap (λ (o : Option ((Kind × Base) × List ℕ)). option_map_or (λ p. p.0.1) o base.None) taken.2 ∙ ap (λ (o : Option (WholeImage × List ℕ)). option_map_or (λ p. p.0.base) o base.None) e.2 in
+    subst (λ (b : Base). b ≢ base.Time 0) base_is (base_read kind.0.1 taken.0.0 taken.0.1 taken.1)
+
+image_sized : (o : Option (WholeImage × List ℕ)) (r : Record) → ((w : WholeImage) (bytes : List ℕ) → o ≡ Some (w, bytes) → w.base ≢ base.Time 0) → option_and_then with_bytes o ≡ Some r → IsSized r
+image_sized None r based is = absurd (cc is)
+image_sized (Some (image, bytes)) r based is = at (image.length == length bytes) refl is
   where
     at : (b : Bool) → (image.length == length bytes) ≡ b → (if b then Some (record { entry = entry.WholeImage image; bytes = bytes }) else None) ≡ Some r → IsSized r
     at true same made =
         let whole : record { entry = entry.WholeImage image; bytes = bytes } ≡ r = cc made in
         let length_is : image.length ≡ length bytes = grind (arith, nat_tests, same) in
-        subst IsSized whole length_is
+        subst IsSized whole (length_is, based image bytes refl)
     at false differs made = absurd (cc made)
 
 record_sized : (body : List ℕ) (r : Record) → record_of body ≡ Some r → IsSized r
@@ -37,7 +70,7 @@ record_sized body r is = at (byte_field body) is
   where
     kinds : (one seven : Bool) (rest : List ℕ) → (if one then option_and_then without_bytes (settings_field rest) else (if seven then option_and_then with_bytes (whole_image_field rest) else None)) ≡ Some r → IsSized r
     kinds true seven rest made = settings_sized (settings_field rest) r made
-    kinds false true rest made = image_sized (whole_image_field rest) r made
+    kinds false true rest made = image_sized (whole_image_field rest) r (image_based rest) made
     kinds false false rest made = absurd (cc made)
 
     at : (o : Option (ℕ × List ℕ)) → option_and_then of_kind o ≡ Some r → IsSized r
@@ -50,20 +83,20 @@ found_in (found fs) = fs
 found_in (broken fs at) = fs
 found_in (foreign at) = []
 
-none_sized : AreSized []
+none_sized : AreRead []
 none_sized f among = absurd (omega (arith, among.1))
 
-one_sized : (f : Found) (fs : List Found) → IsSized f.is → AreSized fs → AreSized (f ∷ fs)
+one_sized : (f : Found) (fs : List Found) → IsSized f.is → AreRead fs → AreRead (f ∷ fs)
 one_sized f fs here rest g (zero, lt, is) = subst (λ (h : Found). IsSized h.is) is here
 one_sized f fs here rest g (suc k, lt, is) = rest g (k, omega arith, is)
 
-with_sized : (at size : ℕ) (o : Option Record) (next : Reading) → ((r : Record) → o ≡ Some r → IsSized r) → AreSized (found_in next) → AreSized (found_in (with_record at size o next))
+with_sized : (at size : ℕ) (o : Option Record) (next : Reading) → ((r : Record) → o ≡ Some r → IsSized r) → AreRead (found_in next) → AreRead (found_in (with_record at size o next))
 with_sized at size None next each rest = none_sized
 with_sized at size (Some r) (found fs) each rest = one_sized _ fs (each r refl) rest
 with_sized at size (Some r) (broken fs bad) each rest = one_sized _ fs (each r refl) rest
 with_sized at size (Some r) (foreign bad) each rest = none_sized
 
-records_sized : (n at : ℕ) (bytes : List ℕ) → AreSized (found_in (records n at bytes))
+records_sized : (n at : ℕ) (bytes : List ℕ) → AreRead (found_in (records n at bytes))
 records_sized zero at bytes = none_sized
 records_sized (suc n) at [] = none_sized
 records_sized (suc n) at (gate ∷ rest) =
@@ -78,15 +111,15 @@ records_sized (suc n) at (gate ∷ rest) =
     next : Reading
     next = records n (at + 5 + size) (drop (4 + size) rest)
 
-    either : (b c : Bool) → AreSized (found_in (with_record at size (record_of body) next)) → AreSized (found_in (if b then (if c then with_record at size (record_of body) next else broken [] at) else found []))
+    either : (b c : Bool) → AreRead (found_in (with_record at size (record_of body) next)) → AreRead (found_in (if b then (if c then with_record at size (record_of body) next else broken [] at) else found []))
     either true true all = all
     either true false all = none_sized
     either false c all = none_sized
 
-pub reading_sized : (bytes : List ℕ) → AreSized (found_in (reading bytes))
+pub reading_sized : (bytes : List ℕ) → AreRead (found_in (reading bytes))
 reading_sized bytes = at (nat_le (length bytes) 17) (starts_with nat_eq bytes header)
   where
-    at : (b c : Bool) → AreSized (found_in (if b then found [] else (if c then records (length bytes) 16 (drop 16 bytes) else foreign (common_prefix_len nat_eq bytes header))))
+    at : (b c : Bool) → AreRead (found_in (if b then found [] else (if c then records (length bytes) 16 (drop 16 bytes) else foreign (common_prefix_len nat_eq bytes header))))
     at true c = none_sized
     at false true = records_sized (length bytes) 16 (drop 16 bytes)
     at false false = none_sized

@@ -1,9 +1,10 @@
 -- Records that are replayed one by one.
-use Rattle.std.specs.Prelude.{◌≡◌, ◌&&◌, ℕ, Bool, true, false, if◌then◌else◌, List, length, Option, Some, None, option_and_then, Contains}
+use Rattle.std.specs.Prelude.{◌≡◌, ◌≢◌, ◌&&◌, ℕ, Bool, true, false, if◌then◌else◌, List, length, Option, Some, None, option_and_then, Contains}
 use Rattle.std.specs.Result.{result_ok}
 use Rattle.std.specs.Str.{bytes_eq}
 use Rattle.site_types.specs.Lines.{line_of, read_line}
 use Rattle.site_types.specs.declared.request.Request.{Request}
+use Rattle.site_types.specs.declared.image.Base.TheVariants as base
 use Rattle.pool_journal.specs.declared.entry.Entry.{Entry}
 use Rattle.pool_journal.specs.declared.entry.Entry.TheVariants as entry
 use Rattle.pool_journal.specs.Records.{Found}
@@ -12,14 +13,14 @@ use Rattle.desk_model.specs.Settings.{is_setting}
 use Rattle.site_desk.specs.Index.{built, Remembers}
 use Rattle.site_desk.specs.declared.index.Index.{Index}
 
--- the entry of an image tells how many bytes stand behind it
-abbrev pub HasLength : Entry → ℕ → Type 0
-HasLength (entry.Settings lines) size = Unit {0}
-HasLength (entry.WholeImage w) size = w.length ≡ size
+-- the entry of an image tells how many bytes stand behind it, and its base is no moment 0
+abbrev pub IsRead : Entry → ℕ → Type 0
+IsRead (entry.Settings lines) size = Unit {0}
+IsRead (entry.WholeImage w) size = (w.length ≡ size) × (w.base ≢ base.Time 0)
 
--- each record does
-abbrev pub AreSized : List Found → Type 0
-AreSized records = (f : Found) → Contains records f → HasLength f.is.entry (length f.is.bytes)
+-- each record is so
+abbrev pub AreRead : List Found → Type 0
+AreRead records = (f : Found) → Contains records f → IsRead f.is.entry (length f.is.bytes)
 
 -- the request of a line of settings: one that changes the site, and of which this line is written
 abbrev pub setting_as : List ℕ → Request → Option Request

@@ -15,6 +15,8 @@ mod record;
 mod replay;
 mod restore;
 mod setting;
+mod soundness;
 mod step;
 
 pub use desk::Desk;
+pub use soundness::disks_stand_sound;

@@ -2,6 +2,7 @@
 ghost use Rattle.std.specs.Prelude.{◌≡◌, false, Ok, IfOk, IfErr, MatchResult};
 ghost use Rattle.vault_disk.specs.Disk.{IsSame};
 ghost use Rattle.vault_disk.specs.Steps.{Rose};
+ghost use Rattle.desk_model.specs.Sound.{Sound, KeepsCopies};
 ghost use Rattle.site_desk.specs.Stands.{opened, Standing, Opens};
 ghost use Rattle.site_desk.specs.Desk.{IsFaultOf};
 
@@ -19,6 +20,8 @@ impl<V: Vault> Desk<V> {
     pub fn open_vault(alloc: Global, mut vault: V) -> Result<Desk<V>, (V, JournalFault)>
         ensures running { IfOk result (λ d. d.stopped ≡ false) }
         ensures state { (V.disk vault).tells → IfOk result (λ d. (opened (V.disk vault).seen ≡ Ok d.state) × Standing (V.disk d.vault) d.state) }
+        // What the vault stands for is sound, and each copy that it keeps restores the bytes of its image.
+        ensures sound { (V.disk vault).tells → IfOk result (λ d. Sound d.state × KeepsCopies d.state) }
         ensures same { MatchResult result (λ d. IsSame (V.disk vault) (V.disk d.vault)) (λ e. IsSame (V.disk vault) (V.disk e.0)) }
         ensures stops { (V.disk vault).tells → MatchResult result (λ d. Opens (V.disk vault) (V.disk d.vault)) (λ e. Opens (V.disk vault) (V.disk e.0)) }
         ensures not_a_vault { (V.disk vault).tells → IfErr result (λ e. IsFaultOf (opened (V.disk vault).seen) e.1) }

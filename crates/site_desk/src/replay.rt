@@ -12,7 +12,7 @@ ghost use Rattle.desk_model.specs.State.{Image, Stored, entries, has_image};
 ghost use Rattle.desk_model.specs.Backups.{image_limit, is_known, takes_all};
 ghost use Rattle.site_desk.specs.Stands.{apply, is_base_below, image_fits};
 ghost use Rattle.site_desk.specs.Index.{built, Remembers, IsReplayed, SameIndex};
-ghost use Rattle.site_desk.specs.Replays.{AreSized, IsReached};
+ghost use Rattle.site_desk.specs.Replays.{AreRead, IsReached};
 
 use crate::extents::{Extent, Extents};
 use crate::image::record_of;
@@ -118,7 +118,7 @@ pub fn take_image(
 // Replays a record. False where it doesn't fit; then nothing is said of the index.
 fn replay_record(alloc: Global, index: &mut Index, placed: &Placed) -> Result<bool, NoMemory>
     ensures { (records : List Found) (images : List Image) (stored : List Stored) (f : Found)
-        → AreSized records
+        → AreRead records
         → Contains records f
         → placed_of f ≡ placed.now
         → Remembers records index.old images
@@ -158,7 +158,7 @@ pub struct Replayed {
 
 /// Replays entries from the state of a new vault on.
 pub fn replay(alloc: Global, entries: &[Placed]) -> Result<Replayed, NoMemory>
-    ensures { IfOk result (λ r. (records : List Found) → AreSized records → placed records ≡ entries.now → IsReplayed records r.index r.bad) }
+    ensures { IfOk result (λ r. (records : List Found) → AreRead records → placed records ≡ entries.now → IsReplayed records r.index r.bad) }
 {
     let mut index = of_new_vault(alloc)?;
     for placed in entries {

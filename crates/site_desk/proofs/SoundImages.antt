@@ -1,0 +1,142 @@
+-- What an image of a disk stands for is sound.
+use Rattle.std.proofs.Common.{◌≡◌, ◌≢◌, ◌≤◌, ◌<◌, ◌∙◌, ℕ, zero, suc, Bool, true, false, List, [], ◌∷◌, length, refl, sym, ap, subst, arith}
+use Rattle.std.specs.Prelude.{Option, Some, None, Result, Ok, Err, is_none, is_some, not, ◌&&◌, ◌||◌, nat_le, nat_lt, if◌then◌else◌, Contains}
+use Rattle.std.specs.Option.{option_and_then}
+use Rattle.std.specs.Result.{result_ok}
+use Rattle.std.specs.Str.{bytes_eq}
+use Rattle.std.proofs.lemmas.Bool.{false≢true, and_parts, not-true}
+use Rattle.std.proofs.lemmas.Bool.Decides.{nat_tests}
+use Rattle.site_types.specs.Limits.{last_moment}
+use Rattle.site_types.specs.Lines.{line_of, read_line}
+use Rattle.site_types.specs.declared.answer.Answer.{Answer}
+use Rattle.site_types.specs.declared.image.Base.{Base}
+use Rattle.site_types.specs.declared.image.Base.TheVariants as base
+use Rattle.site_types.specs.declared.request.Request.{Request}
+use Rattle.site_types.proofs.OptionLemmas.{guarded, chained}
+use Rattle.vault_disk.specs.Disk.{Image as DiskImage}
+use Rattle.pool_journal.specs.declared.entry.Entry.{Entry}
+use Rattle.pool_journal.specs.declared.entry.Entry.TheVariants as entry
+use Rattle.pool_journal.specs.declared.entry.WholeImage.{WholeImage}
+use Rattle.pool_journal.specs.Entries.{Record}
+use Rattle.pool_journal.specs.Records.{Found, Reading, found, broken, foreign, reading}
+use Rattle.slp_tree.specs.Lifecycles.{version_named}
+use Rattle.policy_book.specs.Lists.{has}
+use Rattle.policy_book.specs.Book.{policy_name, client_limit}
+use Rattle.desk_model.specs.State.{State, initial, has_image}
+use Rattle.desk_model.specs.Refusals.{first_refusal}
+use Rattle.desk_model.specs.Backups.{image_limit, takes_all, is_known, sealed_entry, sealed}
+use Rattle.desk_model.specs.Settings.{is_setting, setting_refusals, set_by}
+use Rattle.desk_model.specs.Sound.{Sound, IsBase, KeepsCopies}
+use Rattle.desk_model.proofs.Asking.{line_asks}
+use Rattle.desk_model.proofs.Restores.{keeps_copies}
+use Rattle.desk_model.proofs.SealSound.{Fits, seal_sound}
+use Rattle.desk_model.proofs.SoundSteps.{sound_initial, set_sound}
+use Rattle.site_desk.specs.Stands.{image_fits, is_base_below, client_fits, whole_entry, whole_image, whole_unit, is_settled, settled_as, settled_by, settled, apply, apply_entry, applied_from, applied, unless_before, stood, opened, stands}
+use Rattle.site_desk.specs.Replays.{IsRead, AreRead}
+use Rattle.site_desk.proofs.SizedRecords.{found_in, reading_sized}
+
+-- Settings.
+
+none_there : {A : Type 0} (o : Option A) → is_none o ≡ true → o ≡ None
+none_there None is = refl
+none_there (Some x) is = absurd (false≢true is)
+
+read_ok : (line : List ℕ) (r : Request) → result_ok (read_line line) ≡ Some r → read_line line ≡ Ok r
+read_ok line r is = at (read_line line) is
+  where
+    at : (o : Result Request ℕ) → result_ok o ≡ Some r → o ≡ Ok r
+    at (Ok x) some = let same : x ≡ r = cc some in ap (λ (y : Request). Ok y) same
+    at (Err index) some = absurd (cc some)
+
+line_sound : (s : State) (line : List ℕ) (t : State) → Sound s → settled_by s line ≡ Some t → Sound t
+line_sound s line t sound is =
+    let request = chained (settled_as s line) (result_ok (read_line line)) t is in
+    let done = guarded (is_settled s line request.0) (Some (set_by request.0 s)) t request.2 in
+    let none = none_there (first_refusal (setting_refusals request.0 s)) (and_parts (is_setting request.0 && bytes_eq (line_of request.0) line) (is_none (first_refusal (setting_refusals request.0 s))) done.0).1 in
+    let same : set_by request.0 s ≡ t = cc done.1 in
+    subst Sound same (set_sound request.0 s sound (line_asks line request.0 (read_ok line request.0 request.1)) none)
+
+lines_sound : (lines : List (List ℕ)) (s t : State) → Sound s → settled s lines ≡ Some t → Sound t
+lines_sound [] s t sound is = let same : s ≡ t = cc is in subst Sound same sound
+lines_sound (line ∷ lines) s t sound is =
+    let first = chained (λ u. settled u lines) (settled_by s line) t is in
+    lines_sound lines first.0 t (line_sound s line first.0 sound first.1) first.2
+
+-- Images.
+
+is_base : (b : Base) (time : ℕ) → b ≢ base.Time 0 → is_base_below b time ≡ true → IsBase b time
+is_base base.None time some below = tt
+is_base (base.Time zero) time some below = absurd (some refl)
+is_base (base.Time (suc moment)) time some below = (omega arith, grind (arith, nat_tests, below))
+
+room_for : (known takes : Bool) (count : ℕ) → (known || (takes && nat_lt count client_limit)) ≡ true → known ≡ false → count < client_limit
+room_for true takes count fits unknown = absurd (false≢true (sym unknown))
+room_for false true count fits unknown = grind (arith, nat_tests, fits)
+room_for false false count fits unknown = absurd (false≢true fits)
+
+-- an image that an opening takes is one that fits
+fits_by : (s : State) (w : WholeImage) (size : ℕ) → w.base ≢ base.Time 0 → image_fits s w ≡ true → Fits s (sealed_entry s.site.book w.id w.policy w.schedule w.kind w.base w.lifecycle w.version w.completed size) w.completed
+fits_by s w size based fits =
+    let h = and_parts _ (nat_le w.completed last_moment) fits in
+    let g = and_parts _ (is_base_below w.base w.id.time) h.0 in
+    let f = and_parts _ (nat_le w.id.time last_moment) g.0 in
+    let e = and_parts _ (nat_le 1 w.id.time) f.0 in
+    let d = and_parts _ (client_fits s w) e.0 in
+    let c = and_parts _ (is_some (version_named w.lifecycle w.version s.site.book.lifecycles)) d.0 in
+    let b = and_parts _ (has policy_name w.policy s.site.book.policies) c.0 in
+    let a = and_parts (nat_lt (length s.images) image_limit) (not (has_image w.id s.images)) b.0 in
+    let room : nat_lt (length s.images) image_limit ≡ true = a.0 in
+    let from : nat_le 1 w.id.time ≡ true = e.1 in
+    let to : nat_le w.id.time last_moment ≡ true = f.1 in
+    let late : nat_le w.completed last_moment ≡ true = h.1 in
+    record {
+      room = grind (arith, nat_tests, room);
+      fresh = not-true (has_image w.id s.images) a.1;
+      policy = b.1;
+      version = c.1;
+      client = room_for (is_known w.id.client s.site.book) (takes_all w.policy) (length s.site.book.clients) d.1;
+      time = (grind (arith, nat_tests, from), grind (arith, nat_tests, to));
+      base = is_base w.base w.id.time based g.1;
+      completed = grind (arith, nat_tests, late);
+    }
+
+-- Records.
+
+entry_sound : (s : State) (e : Entry) (bytes : List ℕ) (t : State) → IsRead e (length bytes) → Sound s → apply_entry s e bytes ≡ Some t → Sound t
+entry_sound s (entry.Settings lines) bytes t is_read sound is = lines_sound lines s t sound is
+entry_sound s (entry.WholeImage w) bytes t is_read sound is =
+    let done = guarded (image_fits s w) (Some (sealed (whole_image s w bytes) (whole_unit s w) s)) t is in
+    let same : sealed (whole_image s w bytes) (whole_unit s w) s ≡ t = cc done.1 in
+    subst Sound same
+    (subst (λ (n : ℕ). Sound (sealed (record { entry = sealed_entry s.site.book w.id w.policy w.schedule w.kind w.base w.lifecycle w.version w.completed n; bytes = bytes }) (whole_unit s w) s)) (sym is_read.0)
+    (seal_sound s sound w.id w.policy w.schedule w.kind w.base w.lifecycle w.version w.completed bytes (fits_by s w (length bytes) is_read.1 done.0)))
+
+applied_sound : (fs : List Found) (at : ℕ) (o : Option State) (t : State) → AreRead fs → ((s : State) → o ≡ Some s → Sound s) → applied_from at o fs ≡ Ok t → Sound t
+applied_sound fs at None t read sound is = absurd (cc is)
+applied_sound [] at (Some s) t read sound is = let same : s ≡ t = cc is in subst Sound same (sound s refl)
+applied_sound (f ∷ fs) at (Some s) t read sound is =
+    applied_sound fs f.at (apply s f.is) t (λ g among. read g (suc among.0, omega (arith, among.1), among.2)) (λ u made. entry_sound s f.is.entry f.is.bytes u (read f (0, omega arith, refl)) (sound s refl) made) is
+
+pub records_sound : (fs : List Found) (s : State) → AreRead fs → applied initial fs ≡ Ok s → Sound s
+records_sound fs s read made = applied_sound fs 0 (Some initial) s read (λ u is. let same : initial ≡ u = cc is in subst Sound same sound_initial) made
+
+stood_sound : (r : Reading) (s : State) → AreRead (found_in r) → stood r ≡ Ok s → Sound s
+stood_sound (found fs) s read is = records_sound fs s read is
+stood_sound (broken fs at) s read is = never (applied initial fs) is
+  where
+    never : (o : Result State ℕ) → unless_before at o ≡ Ok s → Sound s
+    never (Ok u) none = absurd (cc none)
+    never (Err earlier) none = absurd (cc none)
+stood_sound (foreign at) s read is = absurd (cc is)
+
+-- whatever an image of a disk stands for is sound
+stands_sound : (c : DiskImage) (s : State) → stands c ≡ Some s → Sound s
+stands_sound c s is = stood_sound (reading (c 0)) s (reading_sized (c 0)) (at (opened c) is)
+  where
+    at : (o : Result State ℕ) → result_ok o ≡ Some s → o ≡ Ok s
+    at (Ok u) some = let same : u ≡ s = cc some in ap (λ (v : State). Ok v) same
+    at (Err offset) none = absurd (cc none)
+
+-- and each copy that is kept in it restores the bytes of its image
+pub disk_sound : (c : DiskImage) (s : State) → stands c ≡ Some s → Sound s × KeepsCopies s
+disk_sound c s is = let sound = stands_sound c s is in (sound, keeps_copies s sound)
