@@ -12,44 +12,19 @@ use Rattle.std.proofs.lemmas.List.{get_or_default, length-set}
 use Rattle.std.proofs.lemmas.Map.Text.{is_eq-slice_cmp}
 use Rattle.std.proofs.lemmas.Slice.Eq.{bytes_eq-Decides}
 use Rattle.policy_book.specs.Lists.{AreByName, named, has, put, without, changed}
-use Rattle.policy_book.specs.Places.{StandsAt}
-use Rattle.policy_book.proofs.ListLemmas.{named_at, put_at}
-
-pub text_is : (a b : List ℕ) → bytes_eq a b ≡ true → a ≡ b
-text_is a b same = (bytes_eq-Decides a b).0 same
+use Rattle.slp_tree.specs.Places.{StandsAt}
+use Rattle.slp_tree.proofs.ListLemmas.{text_is, named_at, put_at, named-put}
 
 module _ {A : Type 0} (name_of : A → List ℕ) where
-  pub named-put : (new : A) (other : List ℕ) (xs : List A) → named name_of other (put name_of new xs) ≡ (if bytes_eq (name_of new) other then Some new else named name_of other xs)
-  named-put new other [] = refl
-  named-put new other (x ∷ xs) = at (slice_cmp nat_cmp (name_of new) (name_of x)) refl (named-put new other xs)
-    where
-      swapped : (a b : Bool) → bytes_eq (name_of x) other ≡ a → bytes_eq (name_of new) other ≡ b → slice_cmp nat_cmp (name_of new) (name_of x) ≡ Greater → (if a then Some x else (if b then Some new else named name_of other xs)) ≡ (if b then Some new else (if a then Some x else named name_of other xs))
-      swapped true true x_is new_is greater =
-          let same : name_of new ≡ name_of x = text_is (name_of new) other new_is ∙ sym (text_is (name_of x) other x_is) in
-          let tied : is_eq (slice_cmp nat_cmp (name_of new) (name_of x)) ≡ true = is_eq-slice_cmp (name_of new) (name_of x) ∙ (bytes_eq-Decides (name_of new) (name_of x)).1 same in
-          absurd (cc (tied, ap is_eq greater))
-      swapped true false x_is new_is greater = refl
-      swapped false b x_is new_is greater = refl
-
-      replaced : (b : Bool) → bytes_eq (name_of new) other ≡ b → name_of new ≡ name_of x → (if b then Some new else named name_of other xs) ≡ (if b then Some new else (if bytes_eq (name_of x) other then Some x else named name_of other xs))
-      replaced true here same = refl
-      replaced false here same = λ i. if (sym here ∙ ap (λ (n : List ℕ). bytes_eq n other) same) i then Some x else named name_of other xs
-
-      at : (o : Ordering) → slice_cmp nat_cmp (name_of new) (name_of x) ≡ o → named name_of other (put name_of new xs) ≡ (if bytes_eq (name_of new) other then Some new else named name_of other xs)
-          → named name_of other (match_ordering o (new ∷ x ∷ xs) (new ∷ xs) (x ∷ put name_of new xs)) ≡ (if bytes_eq (name_of new) other then Some new else (if bytes_eq (name_of x) other then Some x else named name_of other xs))
-      at Less is more = refl
-      at Equal is more = replaced (bytes_eq (name_of new) other) refl (text_is (name_of new) (name_of x) (sym (is_eq-slice_cmp (name_of new) (name_of x)) ∙ ap is_eq is))
-      at Greater is more = ap (λ (o : Option A). if bytes_eq (name_of x) other then Some x else o) more ∙ swapped (bytes_eq (name_of x) other) (bytes_eq (name_of new) other) refl refl is
-
   pub has-put : (new : A) (other : List ℕ) (xs : List A) → has name_of other xs ≡ true → has name_of other (put name_of new xs) ≡ true
-  has-put new other xs there = ap is_some (named-put new other xs) ∙ at (bytes_eq (name_of new) other)
+  has-put new other xs there = ap is_some (named-put name_of new other xs) ∙ at (bytes_eq (name_of new) other)
     where
       at : (b : Bool) → is_some (if b then Some new else named name_of other xs) ≡ true
       at true = refl
       at false = there
 
   pub has-new : (new : A) (xs : List A) → has name_of (name_of new) (put name_of new xs) ≡ true
-  has-new new xs = ap is_some (named-put new (name_of new) xs) ∙ (λ i. is_some (if (bytes_eq-Decides (name_of new) (name_of new)).1 refl i then Some new else named name_of (name_of new) xs))
+  has-new new xs = ap is_some (named-put name_of new (name_of new) xs) ∙ (λ i. is_some (if (bytes_eq-Decides (name_of new) (name_of new)).1 refl i then Some new else named name_of (name_of new) xs))
 
   pub named-without : (gone other : List ℕ) (xs : List A) → named name_of other (without name_of gone xs) ≡ (if bytes_eq gone other then None else named name_of other xs)
   named-without gone other [] = at (bytes_eq gone other)

@@ -24,7 +24,8 @@ use Rattle.desk_model.specs.State.{State, Image, Stored, entries, has_image, wit
 use Rattle.desk_model.specs.Backups.{image_limit, is_known, operations_in, unit_of, unit_at, sealed_entry, sealed}
 use Rattle.desk_model.specs.Step.{has_copy}
 use Rattle.desk_model.specs.Sound.{Sound, IsSoundImage, IsSoundCopy, IsSoundSet, IsSoundBook, IsBase, has_version}
-use Rattle.desk_model.proofs.NamedLemmas.{has-put, has-new, length-put, length-replaced, some_named, found_named, text_is}
+use Rattle.desk_model.proofs.NamedLemmas.{has-put, has-new, length-put, length-replaced, some_named, found_named}
+use Rattle.slp_tree.proofs.ListLemmas.{text_is}
 use Rattle.desk_model.proofs.PieceLemmas.{pieces_sized, each_piece, distinct_all}
 use Rattle.desk_model.proofs.StoredLemmas.{set_name, more_in, stored_length, stored_places, each_stored, stored_grows, stored_there}
 use Rattle.desk_model.proofs.ImageLists.{entries-with, length-image, has_entry, each-with, ids_with}

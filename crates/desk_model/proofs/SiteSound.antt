@@ -19,12 +19,12 @@ use Rattle.policy_book.specs.declared.units.UnitChange.{UnitChange}
 use Rattle.policy_book.specs.Lists.{AreByName, named, has, put, without, changed, itself}
 use Rattle.policy_book.specs.Book.{Policy, Book, unit_name, client_name, policy_name, schedule_name, unit_limit, client_limit, policy_limit, listed_limit, selection_limit, schedule_limit, disk0}
 use Rattle.policy_book.specs.Changes.{unit_of, unit_added, unit_with, unit_changed, client_added, lister, client_removed, last_of, has_lifecycle, policy_added, with_policy, policy_with, policy_removed, clients_of, with_listed, without_listed, selections_of, with_path, without_path, schedules_of, is_full, breaks_rule_8, with_schedule, without_schedule}
-use Rattle.policy_book.proofs.ListLemmas.{rising_put, rising_without}
+use Rattle.slp_tree.proofs.ListLemmas.{rising_put, rising_without, named-put, text_is}
 use Rattle.image_catalogue.specs.Images.{first_of_client, first_under}
 use Rattle.desk_model.specs.State.{State, Image, Stored, entries}
 use Rattle.desk_model.specs.Backups.{is_known}
 use Rattle.desk_model.specs.Sound.{Sound, IsSoundUnit, IsSoundPolicy, IsSoundBook, IsSoundSet, IsNumberOf, HasSet, stored_on}
-use Rattle.desk_model.proofs.NamedLemmas.{named-put, named-changed, has-put, has-new, has-without, has-changed, named-without, has-contained, named-contained, length-put, length-added, length-replaced, length-without, length-changed, rising-changed, each-put, each-changed, each-changed-named, each-without, text_is, some_named}
+use Rattle.desk_model.proofs.NamedLemmas.{named-changed, has-put, has-new, has-without, has-changed, named-without, has-contained, named-contained, length-put, length-added, length-replaced, length-without, length-changed, rising-changed, each-put, each-changed, each-changed-named, each-without, some_named}
 use Rattle.desk_model.proofs.StoredLemmas.{stored_pushed, places_pushed, place_pushed}
 use Rattle.desk_model.proofs.Passing.{none_passes, mapped_in}
 use Rattle.desk_model.proofs.Staying.{book_with, UnitsStay, same_units, lifecycle_stays, policy_stays, set_stays, image_stays, resited, lists_changed}

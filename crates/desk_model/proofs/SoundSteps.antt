@@ -22,7 +22,7 @@ use Rattle.policy_book.specs.Lists.{has}
 use Rattle.policy_book.specs.Book.{Policy, Book, policy_name, client_limit, adhoc, manual}
 use Rattle.policy_book.specs.Changes.{last_of}
 use Rattle.policy_book.specs.Requests.{schedule_of}
-use Rattle.policy_book.specs.SiteFile.{Line, requests_of, site_requests}
+use Rattle.policy_book.specs.SiteFile.{Line, change_in, change_read, changes_site, requests_of, site_requests}
 use Rattle.desk_model.specs.State.{State, initial, Image, Job, has_image}
 use Rattle.desk_model.specs.Refusals.{Case, first_refusal, unless_refused, step_of}
 use Rattle.desk_model.specs.Backups.{Asked, asked_of, image_limit, takes_all, is_known, last_time, later_job, latest_version, policy_asked, schedule_asked, backup_refusals, backup_image, backup_case}
@@ -105,15 +105,20 @@ read_so line r is = at (read_words line) refl is
     at (Ok x) read some = let same : x ≡ r = cc some in words_ask line r (read ∙ ap (λ (y : Request). Ok y) same)
     at (Err index) read some = absurd (cc some)
 
+changed_so : (line : Line) (r : Request) → change_read line ≡ Some r → Asks r
+changed_so line r is =
+    let read = chained change_in (result_ok (read_words line)) r is in
+    read_so line r (read.1 ∙ (guarded (changes_site read.0) (Some read.0) r read.2).1)
+
 lines_ask : (lines : List Line) (requests : List Request) → requests_of lines ≡ Some requests → (r : Request) → Contains requests r → Asks r
 lines_ask [] requests is r among = let none : [] ≡ requests = cc is in absurd (nothing (subst (λ (rs : List Request). Contains rs r) (sym none) among))
   where
     nothing : Contains [] r → ⊥
     nothing (k, lt, here) = absurd (omega arith)
 lines_ask (line ∷ lines) requests is r among =
-    let first = chained _ (result_ok (read_words line)) requests is in
+    let first = chained _ (change_read line) requests is in
     let rest = mapped (λ rs. first.0 ∷ rs) (requests_of lines) requests first.2 in
-    at first.0 rest.0 (read_so line first.0 first.1) (lines_ask lines rest.0 rest.1) (subst (λ (rs : List Request). Contains rs r) (sym rest.2) among)
+    at first.0 rest.0 (changed_so line first.0 first.1) (lines_ask lines rest.0 rest.1) (subst (λ (rs : List Request). Contains rs r) (sym rest.2) among)
   where
     at : (x : Request) (xs : List Request) → Asks x → ((q : Request) → Contains xs q → Asks q) → Contains (x ∷ xs) r → Asks r
     at x xs here later (zero, lt, is) = subst Asks is here

@@ -7,7 +7,7 @@ use Rattle.std.proofs.lemmas.Slice.Eq.{bytes_eq-Decides}
 use Rattle.desk_model.specs.Pieces.{with_pieces}
 use Rattle.desk_model.specs.State.{Stored, with_stored}
 use Rattle.desk_model.specs.Sound.{stored_on}
-use Rattle.desk_model.proofs.NamedLemmas.{text_is}
+use Rattle.slp_tree.proofs.ListLemmas.{text_is}
 use Rattle.desk_model.proofs.PieceLemmas.{among_all, among_more}
 
 abbrev pub set_name : Stored → List ℕ

@@ -23,7 +23,7 @@ use Rattle.site_types.specs.declared.unit.Unit.{Unit as StorageUnit}
 use Rattle.slp_tree.specs.Trees.{Version, broken_rule, waits, completed, needed}
 use Rattle.slp_tree.specs.Lifecycles as lifecycles
 use Rattle.policy_book.specs.declared.client.Client.{Client}
-use Rattle.policy_book.specs.Lists.{has}
+use Rattle.policy_book.specs.Lists.{AreByName, has}
 use Rattle.policy_book.specs.Book.{Policy, Book, unit_name, policy_name, client_limit, policy_limit, listed_limit, selection_limit, schedule_limit, PolicyOrdered, BookOrdered}
 use Rattle.policy_book.specs.Changes.{has_lifecycle, is_full, last_of}
 use Rattle.image_catalogue.specs.Images.{AreById}
@@ -80,7 +80,7 @@ pub record IsSoundPolicy (book : Book) (p : Policy) : Type 0 where
 -- the lists are by name and within their limits, each element is sound, and no last id time is above the last moment
 pub record IsSoundBook (book : Book) : Type 0 where
   pub ordered : BookOrdered book
-  pub by_name : lifecycles.AreByName book.lifecycles
+  pub by_name : AreByName lifecycles.lifecycle_name book.lifecycles
   pub few_clients : length book.clients ≤ client_limit
   pub few_lifecycles : length book.lifecycles ≤ lifecycle_limit
   pub few_policies : length book.policies ≤ policy_limit

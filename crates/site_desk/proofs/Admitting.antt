@@ -19,7 +19,7 @@ use Rattle.site_desk.specs.Index.{TimesBelow, IsWhole, Remembers}
 use Rattle.site_desk.specs.declared.extents.Extent.{Extent}
 use Rattle.site_desk.specs.declared.index.Index.{Index}
 use Rattle.desk_model.proofs.ImageLists.{entries-with, has_entry, each-with, same_is}
-use Rattle.desk_model.proofs.NamedLemmas.{named-put}
+use Rattle.slp_tree.proofs.ListLemmas.{named-put}
 use Rattle.site_desk.proofs.ExtentLemmas.{catalogued-with}
 
 -- The catalogue.

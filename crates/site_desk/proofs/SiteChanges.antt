@@ -37,7 +37,8 @@ use Rattle.site_desk.proofs.Deciding.{none_so, some_so, passed_so}
 use Rattle.site_desk.proofs.ExtentLemmas.{at_same}
 use Rattle.site_desk.specs.declared.extents.Extent.{Extent}
 use Rattle.site_desk.specs.declared.index.Index.{Index}
-use Rattle.desk_model.proofs.NamedLemmas.{named-put, named-without, has-changed, each-put, each-changed, each-without, text_is}
+use Rattle.desk_model.proofs.NamedLemmas.{named-without, has-changed, each-put, each-changed, each-without}
+use Rattle.slp_tree.proofs.ListLemmas.{named-put, text_is}
 
 -- What no refusal says.
 
