@@ -1,0 +1,7 @@
+pub mod Lines
+pub mod ImageLines
+pub mod MediaLines
+pub mod OperationLines
+pub mod UnitLines
+pub mod DueLines
+pub mod Fields
