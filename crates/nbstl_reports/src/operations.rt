@@ -62,7 +62,7 @@ fn push_image(
     }
 }
 
-#[tactic(auto, using(crate::proofs::LineLemmas::paired_more, crate::proofs::LineLemmas::left_ends, crate::proofs::LineLemmas::right_ends, crate::proofs::LineLemmas::right_past))]
+#[tactic(auto, using(crate::proofs::LineLemmas::left_ends, crate::proofs::LineLemmas::right_ends, crate::proofs::LineLemmas::right_past))]
 fn push_version(image: &ImageRecord, version: &Slp, out: &mut Vec<u8>) -> Result<(), NoMemory>
     ensures written { OnOk result (out.new.items ≡ out.old.items ++ lines (map (operation_fields image.now) (operations_of image.now.states (Some version.now)))) }
     ensures begun { OnErr result (StartsWith out.old.items out.new.items) }

@@ -13,4 +13,5 @@ returns-in_err-push_image-clause-begun g c =
 pub returns-clause-written : goal.returns-clause-written
 returns-clause-written g c =
     let steps = g.I.Iterator.next_gives in
-    (run steps _ c.loop-image.yielded true (to_end steps _ c.loop-image.yielded (_, (_, c.loop-image.yielded_by, c.in-None.ensures.steps))), refl, refl, c.loop-image.invariant)
+    let source : c.into_iter-image-iterator.result ≡ c.args.images = search rules in
+    (run steps _ c.loop-image.yielded true (to_end steps _ c.loop-image.yielded (_, (_, c.loop-image.yielded_by, c.in-None.ensures.steps))), source, refl, c.loop-image.invariant)

@@ -17,5 +17,5 @@ returns-in_err-push_unit_stats-clause-begun c =
 -- the pairs that the loop was given are those of the two lists
 pub returns-clause-written : goal.returns-clause-written
 returns-clause-written c =
-    let all = YieldsList-end (YieldsList-from_zip (YieldsList-from_slice c.args.units.now cc) (YieldsList-from_slice c.args.stored.now cc)) c.loop-unit.yielded _ c.loop-unit.yielded_by _ _ c.in-None.is c.next.ensures.steps in
+    let all = YieldsList-end (YieldsList-from_zip (YieldsList-from_slice c.args.units.now cc) (YieldsList-from_slice c.args.stored.now cc)) c.loop-unit.yielded c.loop-unit.unit-iterator c.loop-unit.yielded_by c.next.result c.next.new.self c.in-None.is c.next.ensures.steps in
     c.loop-unit.invariant ∙ ap (λ (entries : List (StorageUnit × StoredSize)). c.args.out.now.items ++ lines (map (stats_fields c.args.images.now) entries)) all.0
