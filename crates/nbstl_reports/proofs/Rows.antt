@@ -1,8 +1,7 @@
 -- Worked rows of the reports: both sides of each equation compute to one value.
-use Rattle.std.proofs.Common.{◌≡◌, ℕ, List, [], ◌∷◌, ◌++◌, codes, refl, Bool, true, false}
+use Rattle.std.proofs.Common.{◌≡◌, ℕ, List, [], ◌∷◌, codes, refl, Bool, true, false}
 use Rattle.std.specs.Fmt.{digits}
 use Rattle.site_types.specs.declared.due.DueBackup.{DueBackup}
-use Rattle.site_types.specs.declared.id.BackupId.{BackupId}
 use Rattle.site_types.specs.declared.image.Base.TheVariants as base
 use Rattle.site_types.specs.declared.image.CopyRecord.{CopyRecord}
 use Rattle.site_types.specs.declared.image.Expiry.TheVariants.{Rule}

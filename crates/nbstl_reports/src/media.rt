@@ -1,8 +1,7 @@
 ghost use Rattle.std.specs.Prelude.{◌≡◌, ◌+◌, ◌*◌, ◌^◌, ◌<◌, ◌++◌, OnOk, OnErr, map, option_copied};
 ghost use Rattle.std.specs.List.{range_with_len};
-ghost use Rattle.nbstl_reports.specs.Lines.{lines};
 ghost use Rattle.nbstl_reports.specs.MediaLines.{fragment_count, fragment_fields, fragment_size, fragments_of, media_lines, unit_named};
-ghost use Rattle.nbstl_reports.specs.Lines.{line};
+ghost use Rattle.nbstl_reports.specs.Lines.{line, lines};
 ghost use Rattle.nbstl_reports.specs.Fields.{StartsWith};
 
 use crate::NoMemory;

@@ -1,7 +1,6 @@
-ghost use Rattle.std.specs.Prelude.{◌≡◌, ◌++◌, ◌∷◌, map, slice_get, OnOk, OnErr, Some};
+ghost use Rattle.std.specs.Prelude.{◌≡◌, ◌++◌, map, slice_get, OnOk, OnErr, Some};
 ghost use Rattle.std.specs.Iterator.{IsFinite};
 ghost use Rattle.std.specs.Iterator.Runs.{WholeRun};
-ghost use Rattle.slp_tree.specs.Lifecycles.{version_named};
 ghost use Rattle.nbstl_reports.specs.Lines.{line, lines};
 ghost use Rattle.nbstl_reports.specs.ImageLines.{listed};
 ghost use Rattle.nbstl_reports.specs.OperationLines.{flag_text, operation_fields, operation_lines, operation_rows, operations_of, state_text};

@@ -19,14 +19,22 @@ fn name(rt: &(impl Abort + Alloc<A = Global>), text: &[u8]) -> Result<Name, NoMe
     Ok(Name::new(rt.alloc(), text)?.expect(rt, "a name"))
 }
 
-// An image of 17 bytes on `disk0`, of which no other copy is made yet.
-fn image(rt: &(impl Abort + Alloc<A = Global>), client: &[u8]) -> Result<ImageRecord, NoMemory> {
-    let copy = CopyRecord {
-        number: 1,
+fn copy(
+    rt: &(impl Abort + Alloc<A = Global>),
+    number: u8,
+    completed: u64,
+) -> Result<CopyRecord, NoMemory> {
+    Ok(CopyRecord {
+        number,
         unit: name(rt, b"disk0")?,
-        completed: 9,
+        completed,
         expiry: Expiry::Rule,
-    };
+    })
+}
+
+// An image of 17 bytes with two copies on `disk0`, of which the second was complete before the first.
+fn image(rt: &(impl Abort + Alloc<A = Global>), client: &[u8]) -> Result<ImageRecord, NoMemory> {
+    let copies = vec![in rt.alloc(); copy(rt, 1, 9)?, copy(rt, 2, 5)?]?;
     Ok(ImageRecord {
         id: BackupId {
             client: name(rt, client)?,
@@ -40,7 +48,7 @@ fn image(rt: &(impl Abort + Alloc<A = Global>), client: &[u8]) -> Result<ImageRe
         version: 1,
         length: 17,
         states: ListOf::from_vec(vec![in rt.alloc(); OpState::Complete, OpState::Waiting]?),
-        copies: ListOf::from_vec(vec![in rt.alloc(); copy]?),
+        copies: ListOf::from_vec(copies),
         primary: 1,
         active: true,
     })
@@ -124,7 +132,7 @@ fn images_and_their_parts_are_listed(rt: HostRuntime) -> Result<(), NoMemory> {
     media_lines(rt.alloc(), &image(&rt, b"a")?, &[unit(&rt)?], &mut out)?;
     operation_lines(rt.alloc(), images.iter(), &lifecycles(&rt)?, &mut out)?;
     let expected =
-        b"a_10 office weekly full gold 1 17 1 1\nb_10 office weekly full gold 1 17 1 1\nb_10 office weekly full gold 1 17 1 1\na_10 1 1 disk0 16\na_10 1 2 disk0 1\na_10 0 complete disk0 active\na_10 1 waiting disk0 active\nb_10 0 complete disk0 active\nb_10 1 waiting disk0 active\n";
+        b"a_10 office weekly full gold 1 17 1 1,2\nb_10 office weekly full gold 1 17 1 1,2\nb_10 office weekly full gold 1 17 1 1,2\na_10 1 1 disk0 16\na_10 1 2 disk0 1\na_10 2 1 disk0 16\na_10 2 2 disk0 1\na_10 0 complete disk0 active\na_10 1 waiting disk0 active\nb_10 0 complete disk0 active\nb_10 1 waiting disk0 active\n";
     assert_eq!(rt; out.as_slice(), expected.as_slice());
     Ok(())
 }
@@ -151,7 +159,7 @@ fn units_and_what_is_due_are_listed(rt: HostRuntime) -> Result<(), NoMemory> {
     stats_lines(rt.alloc(), &units, &images, &stored, &mut out)?;
     due_lines(rt.alloc(), &[backup], &[copy], &mut out)?;
     let expected =
-        b"disk0 34 100 80 40\ndisk0 2 17 2 34\nbackup office a weekly\nduplicate a_10 1\n";
+        b"disk0 68 100 80 40\ndisk0 2 17 4 68\nbackup office a weekly\nduplicate a_10 1\n";
     assert_eq!(rt; out.as_slice(), expected.as_slice());
     Ok(())
 }

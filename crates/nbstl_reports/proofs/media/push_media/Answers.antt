@@ -1,4 +1,4 @@
-use Rattle.std.proofs.Common.{◌≡◌, ◌∙◌, ◌++◌, rules, ap, refl, true, length, get_or, List, map, arith}
+use Rattle.std.proofs.Common.{◌∙◌, rules, ap, length, get_or, List, arith}
 use Rattle.nbstl_reports.specs.Fields.{StartsWith}
 use Rattle.nbstl_reports.proofs.LineLemmas.{starts_before, rows_taken}
 use Rattle.site_types.specs.declared.image.CopyRecord.{CopyRecord}

@@ -1,4 +1,4 @@
-use Rattle.std.proofs.Common.{◌≡◌, ◌∙◌, ◌++◌, rules, ap, refl, true, length, get_or, List, map, arith}
+use Rattle.std.proofs.Common.{◌≡◌, rules, refl, true}
 use Rattle.nbstl_reports.specs.Fields.{StartsWith}
 use Rattle.nbstl_reports.proofs.LineLemmas.{starts_before}
 use Rattle.std.proofs.iter.runs.Made.{run, to_end}

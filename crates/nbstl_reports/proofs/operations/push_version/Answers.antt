@@ -1,4 +1,4 @@
-use Rattle.std.proofs.Common.{ℕ, ◌+◌, ◌∷◌, [], sym, take, ◌≡◌, ◌∙◌, ◌++◌, rules, ap, refl, true, length, get_or, List, map, arith}
+use Rattle.std.proofs.Common.{ℕ, sym, take, ◌∙◌, ◌++◌, rules, ap, List, map}
 use Rattle.nbstl_reports.specs.Fields.{StartsWith}
 use Rattle.nbstl_reports.proofs.LineLemmas.{line_more, paired, paired_more, starts_before}
 use Rattle.site_types.specs.declared.lifecycle.Operation.{Operation}
