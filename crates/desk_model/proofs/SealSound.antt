@@ -21,7 +21,7 @@ use Rattle.policy_book.specs.Changes.{last_of}
 use Rattle.image_catalogue.specs.Images.{AreById, record_named}
 use Rattle.desk_model.specs.Pieces.{pieces}
 use Rattle.desk_model.specs.State.{State, Image, Stored, entries, has_image, with_stored}
-use Rattle.desk_model.specs.Backups.{image_limit, is_known, operations_in, unit_of, unit_at, sealed_entry, sealed}
+use Rattle.desk_model.specs.Backups.{image_limit, takes_all, is_known, operations_in, unit_of, unit_at, sealed_entry, sealed}
 use Rattle.desk_model.specs.Step.{has_copy}
 use Rattle.desk_model.specs.Sound.{Sound, IsSoundImage, IsSoundCopy, IsSoundSet, IsSoundBook, IsBase, has_version}
 use Rattle.desk_model.proofs.NamedLemmas.{has-put, has-new, length-put, length-replaced, some_named, found_named}
@@ -33,13 +33,13 @@ use Rattle.desk_model.proofs.RuleLemmas.{rules_hold, AreSealed, are_sealed, need
 use Rattle.desk_model.proofs.Staying.{book_with, same_units, set_stays, image_stays}
 use Rattle.desk_model.proofs.SiteSound.{last_put, clients_put}
 
--- An image that isn't there and for which there is room, under a policy and a version of a lifecycle that are there; its client is there or may be added; its moments are within their limits.
+-- An image that isn't there and for which there is room, under a policy and a version of a lifecycle that are there; its client is there, or its policy takes every client and there is room for one more; its moments are within their limits.
 pub record Fits (s : State) (entry : ImageRecord) (moment : ℕ) : Type 0 where
   pub room : length s.images < image_limit
   pub fresh : has_image entry.id s.images ≡ false
   pub policy : has policy_name entry.policy s.site.book.policies ≡ true
   pub version : has_version entry.lifecycle entry.version s.site.book ≡ true
-  pub client : is_known entry.id.client s.site.book ≡ false → length s.site.book.clients < client_limit
+  pub client : is_known entry.id.client s.site.book ≡ false → (takes_all entry.policy ≡ true) × (length s.site.book.clients < client_limit)
   pub time : (1 ≤ entry.id.time) × (entry.id.time ≤ last_moment)
   pub base : IsBase entry.base entry.id.time
   pub completed : moment ≤ last_moment
@@ -166,7 +166,7 @@ module _ (s : State) (sound : Sound s) (id : BackupId) (policy schedule : List �
             omega (arith, long, few)
         at false unknown =
             let long = length-put client_name client old.clients in
-            let room = fits.client unknown in
+            let room = (fits.client unknown).1 in
             omega (arith, long, room)
 
     pub seal_sound : Sound (sealed image unit s)

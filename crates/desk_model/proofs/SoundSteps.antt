@@ -136,9 +136,9 @@ file_asks payload r among = at (file_requests payload) refl among
 
 -- Backups.
 
-client_room : (takes there : Bool) (count : ℕ) → (not takes && not there) ≡ false → (takes && not there && nat_le client_limit count) ≡ false → there ≡ false → count < client_limit
+client_room : (takes there : Bool) (count : ℕ) → (not takes && not there) ≡ false → (takes && not there && nat_le client_limit count) ≡ false → there ≡ false → (takes ≡ true) × (count < client_limit)
 client_room takes true count p q unknown = absurd (false≢true (sym unknown))
-client_room true false count p q unknown = grind (arith, nat_tests, q)
+client_room true false count p q unknown = (refl, grind (arith, nat_tests, q))
 client_room false false count p q unknown = absurd (cc p)
 
 -- a backup that nothing refuses is of an image that fits
@@ -181,7 +181,9 @@ module _ (s : State) (sound : Sound s) (asked : Asked) (payload : List ℕ) (mom
         fresh = new_one;
         policy = subst (λ (p : Policy). has policy_name p.name book.policies ≡ true) (sym policy_is) (ap (λ (n : List ℕ). has policy_name n book.policies) found.0 ∙ ap is_some one.1);
         version = subst (λ (p : Policy). has_version p.lifecycle (latest_version p.lifecycle book) book ≡ true) (sym policy_is) (latest_there book sound.site.lifecycles one.0.lifecycle (sound.site.policies one.0 found.1).lifecycle);
-        client = client_room (takes_all asked.policy) (is_known asked.client book) (length book.clients) passed.1.1.0 passed.1.1.1.0;
+        client = λ unknown.
+            let room = client_room (takes_all asked.policy) (is_known asked.client book) (length book.clients) passed.1.1.0 passed.1.1.1.0 unknown in
+            (subst (λ (p : Policy). takes_all p.name ≡ true) (sym policy_is) (ap takes_all found.0 ∙ room.0), room.1);
         time = (omega arith, grind (arith, nat_tests, late));
         base = tt;
         completed = early;

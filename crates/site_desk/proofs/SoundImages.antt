@@ -1,14 +1,12 @@
 -- What an image of a disk stands for is sound.
 use Rattle.std.proofs.Common.{◌≡◌, ◌≢◌, ◌≤◌, ◌<◌, ◌∙◌, ℕ, zero, suc, Bool, true, false, List, [], ◌∷◌, length, refl, sym, ap, subst, arith}
-use Rattle.std.specs.Prelude.{Option, Some, None, Result, Ok, Err, is_none, is_some, not, ◌&&◌, ◌||◌, nat_le, nat_lt, if◌then◌else◌, Contains}
-use Rattle.std.specs.Option.{option_and_then}
+use Rattle.std.specs.Prelude.{Option, Some, None, Result, Ok, Err, is_none, is_some, not, ◌&&◌, ◌||◌, nat_le, nat_lt, if◌then◌else◌}
 use Rattle.std.specs.Result.{result_ok}
 use Rattle.std.specs.Str.{bytes_eq}
-use Rattle.std.proofs.lemmas.Bool.{false≢true, and_parts, not-true}
+use Rattle.std.proofs.lemmas.Bool.{false≢true, and_parts, not-true, not_from_false}
 use Rattle.std.proofs.lemmas.Bool.Decides.{nat_tests}
 use Rattle.site_types.specs.Limits.{last_moment}
 use Rattle.site_types.specs.Lines.{line_of, read_line}
-use Rattle.site_types.specs.declared.answer.Answer.{Answer}
 use Rattle.site_types.specs.declared.image.Base.{Base}
 use Rattle.site_types.specs.declared.image.Base.TheVariants as base
 use Rattle.site_types.specs.declared.request.Request.{Request}
@@ -17,22 +15,23 @@ use Rattle.vault_disk.specs.Disk.{Image as DiskImage}
 use Rattle.pool_journal.specs.declared.entry.Entry.{Entry}
 use Rattle.pool_journal.specs.declared.entry.Entry.TheVariants as entry
 use Rattle.pool_journal.specs.declared.entry.WholeImage.{WholeImage}
-use Rattle.pool_journal.specs.Entries.{Record}
 use Rattle.pool_journal.specs.Records.{Found, Reading, found, broken, foreign, reading}
 use Rattle.slp_tree.specs.Lifecycles.{version_named}
 use Rattle.policy_book.specs.Lists.{has}
 use Rattle.policy_book.specs.Book.{policy_name, client_limit}
 use Rattle.desk_model.specs.State.{State, initial, has_image}
 use Rattle.desk_model.specs.Refusals.{first_refusal}
-use Rattle.desk_model.specs.Backups.{image_limit, takes_all, is_known, sealed_entry, sealed}
+use Rattle.desk_model.specs.Backups.{Asked, image_limit, takes_all, is_known, sealed_entry, sealed, backup_refusals, backup_done}
 use Rattle.desk_model.specs.Settings.{is_setting, setting_refusals, set_by}
 use Rattle.desk_model.specs.Sound.{Sound, IsBase, KeepsCopies}
 use Rattle.desk_model.proofs.Asking.{line_asks}
 use Rattle.desk_model.proofs.Restores.{keeps_copies}
 use Rattle.desk_model.proofs.SealSound.{Fits, seal_sound}
-use Rattle.desk_model.proofs.SoundSteps.{sound_initial, set_sound}
-use Rattle.site_desk.specs.Stands.{image_fits, is_base_below, client_fits, whole_entry, whole_image, whole_unit, is_settled, settled_as, settled_by, settled, apply, apply_entry, applied_from, applied, unless_before, stood, opened, stands}
+use Rattle.desk_model.proofs.SoundSteps.{sound_initial, set_sound, backup_fits}
+use Rattle.desk_rules.specs.Decisions.{backup_body}
+use Rattle.site_desk.specs.Stands.{image_fits, is_base_below, client_fits, whole_image, whole_unit, is_settled, settled_as, settled_by, settled, apply, apply_entry, applied_from, applied, unless_before, stood, opened, stands}
 use Rattle.site_desk.specs.Replays.{IsRead, AreRead}
+use Rattle.site_desk.specs.Desk.{whole_of}
 use Rattle.site_desk.proofs.SizedRecords.{found_in, reading_sized}
 
 -- Settings.
@@ -69,9 +68,9 @@ is_base base.None time some below = tt
 is_base (base.Time zero) time some below = absurd (some refl)
 is_base (base.Time (suc moment)) time some below = (omega arith, grind (arith, nat_tests, below))
 
-room_for : (known takes : Bool) (count : ℕ) → (known || (takes && nat_lt count client_limit)) ≡ true → known ≡ false → count < client_limit
+room_for : (known takes : Bool) (count : ℕ) → (known || (takes && nat_lt count client_limit)) ≡ true → known ≡ false → (takes ≡ true) × (count < client_limit)
 room_for true takes count fits unknown = absurd (false≢true (sym unknown))
-room_for false true count fits unknown = grind (arith, nat_tests, fits)
+room_for false true count fits unknown = (refl, grind (arith, nat_tests, fits))
 room_for false false count fits unknown = absurd (false≢true fits)
 
 -- an image that an opening takes is one that fits
@@ -140,3 +139,38 @@ stands_sound c s is = stood_sound (reading (c 0)) s (reading_sized (c 0)) (at (o
 -- and each copy that is kept in it restores the bytes of its image
 pub disk_sound : (c : DiskImage) (s : State) → stands c ≡ Some s → Sound s × KeepsCopies s
 disk_sound c s is = let sound = stands_sound c s is in (sound, keeps_copies s sound)
+
+-- A backup that nothing refuses.
+
+client_there : (known takes : Bool) (count : ℕ) → (known ≡ false → (takes ≡ true) × (count < client_limit)) → (known || (takes && nat_lt count client_limit)) ≡ true
+client_there true takes count room = refl
+client_there false takes count room =
+    let some = room refl in
+    let few : nat_lt count client_limit ≡ true = let lt = some.1 in grind (arith, nat_tests, lt) in
+    λ i. some.0 i && few i
+
+module _ (s : State) (sound : Sound s) (asked : Asked) (payload : List ℕ) (moment : ℕ) where
+  abbrev w : WholeImage
+  w = whole_of (backup_body asked moment s) moment
+
+  -- it is one that an opening takes
+  taken : moment ≤ last_moment → first_refusal (backup_refusals asked moment s) ≡ None → image_fits s w ≡ true
+  taken early none =
+      let fits = backup_fits s sound asked payload moment early none in
+      let few = fits.room in
+      let time = fits.time in
+      let room : nat_lt (length s.images) image_limit ≡ true = grind (arith, nat_tests, few) in
+      let from : nat_le 1 w.id.time ≡ true = let low = time.0 in grind (arith, nat_tests, low) in
+      let to : nat_le w.id.time last_moment ≡ true = let high = time.1 in grind (arith, nat_tests, high) in
+      let completed : nat_le moment last_moment ≡ true = grind (arith, nat_tests, early) in
+      let fresh : not (has_image w.id s.images) ≡ true = not_from_false (has_image w.id s.images) fits.fresh in
+      let policy : has policy_name w.policy s.site.book.policies ≡ true = fits.policy in
+      let version : is_some (version_named w.lifecycle w.version s.site.book.lifecycles) ≡ true = fits.version in
+      let client : client_fits s w ≡ true = client_there (is_known w.id.client s.site.book) (takes_all w.policy) (length s.site.book.clients) fits.client in
+      λ i. room i && fresh i && policy i && version i && client i && from i && to i && true && completed i
+
+  -- and its record makes the state after it
+  pub backup_applies : asked.size ≡ length payload → moment ≤ last_moment → first_refusal (backup_refusals asked moment s) ≡ None → apply s (record { entry = entry.WholeImage w; bytes = payload }) ≡ Some (backup_done asked payload moment s).1
+  backup_applies size early none =
+      (λ i. if taken early none i then Some (sealed (whole_image s w payload) (whole_unit s w) s) else None)
+      ∙ ap (λ (n : ℕ). Some (sealed (whole_image s (record w { length = n }) payload) (whole_unit s w) s)) size

@@ -19,4 +19,4 @@ mod soundness;
 mod step;
 
 pub use desk::Desk;
-pub use soundness::disks_stand_sound;
+pub use soundness::{allowed_backups_fit, disks_stand_sound};

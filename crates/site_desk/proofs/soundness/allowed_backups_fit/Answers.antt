@@ -1,0 +1,5 @@
+use Rattle.site_desk.proofs.SoundImages.{backup_applies}
+use Rattle.site_desk.proofs.soundness.allowed_backups_fit.Goals as goal
+
+pub returns : goal.returns
+returns c s asked payload moment sound = backup_applies s sound asked payload moment
