@@ -15,6 +15,3 @@ pub use marks::{marks_reached, used};
 
 /// No memory was left.
 pub type NoMemory = std::alloc::AllocError;
-
-#[cfg(test)]
-mod tests;
