@@ -170,6 +170,13 @@ class Rows(DeskTest):
         ran = subprocess.run([str(desk.PROGRAM)], input=b"", capture_output=True, timeout=desk.PATIENCE)
         self.assertEqual((ran.returncode, ran.stdout, ran.stderr), (2, b"", b"usage: bpdesk FOLDER WORDS\n"))
 
+    def test_a_word_that_is_no_text_has_no_reply(self):
+        for words in ([self.desk.folder, b"\xff"], [b"\xff", "bprestore", "id=a_1"]):
+            with self.subTest(words=words):
+                ran = subprocess.run([str(desk.PROGRAM), *words], input=b"", capture_output=True, timeout=desk.PATIENCE)
+                self.assertEqual((ran.returncode, ran.stdout, ran.stderr), (2, b"", b"bpdesk: a word is not UTF-8\n"))
+        self.assertFalse(self.desk.exists(), "a folder was made")
+
     def test_the_clock_gives_the_moment(self):
         import time
 

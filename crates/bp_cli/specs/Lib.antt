@@ -1,6 +1,6 @@
 pub mod Words
 pub mod Gather
 pub mod Payload
-pub mod Causes
 pub mod Runs
+pub mod Singles
 pub mod Sessions

@@ -22,5 +22,5 @@ IsShort _ = Unit {0}
 abbrev pub IsTakenFor : Bool → Input → Taken → Input → Type 0
 IsTakenFor takes old (Whole bytes) new = IsGiven takes bytes old new
 IsTakenFor takes old TooLong new = (takes ≡ true) × (old.tells → payload_limit < length old.left)
-IsTakenFor takes old Failed new = Unit {0}
-IsTakenFor takes old NoMemory new = Unit {0}
+IsTakenFor takes old Failed new = takes ≡ true
+IsTakenFor takes old NoMemory new = takes ≡ true

@@ -1,90 +1,45 @@
--- A run of the program: what is asked, what is answered, and what a stop leaves.
-use Rattle.std.specs.Prelude.{◌≡◌, ◌≢◌, ◌⊎◌, ℕ, ◌≤◌, List, ◌++◌, length, Some, None, Result, Ok, Err, MatchResult}
-use Rattle.site_types.specs.Answers.{number_of, text_of, NeedsMemory}
-use Rattle.site_types.specs.Requests.{takes_payload}
+-- What came of requests: what was carried out and answered, what was sent, and what a stop leaves. A single request and a session share all of this.
+use Rattle.std.specs.Prelude.{◌≡◌, ◌≢◌, ◌⊎◌, ℕ, List, [], ◌∷◌, ◌++◌, Some, Result, Ok, Err}
+use Rattle.site_types.specs.Answers.{number_of, NeedsMemory}
 use Rattle.site_types.specs.declared.answer.Answer.{Answer}
-use Rattle.site_types.specs.declared.answer.Answer.TheVariants.{OutOfMemory, BadRequest, TooMany, DiskFault, ReadFault, SendFault, ClockFault, NotAVault}
-use Rattle.site_types.specs.declared.request.Request.TheVariants.{Load}
-use Rattle.site_types.specs.declared.request.WordFault.{WordFault}
-use Rattle.site_types.specs.declared.request.WordFault.TheVariants as words
+use Rattle.site_types.specs.declared.answer.Answer.TheVariants.{OutOfMemory, DiskFault, ReadFault, ClockFault, NotAVault}
 use Rattle.vault_disk.specs.Disk.{Disk, Image, During}
-use Rattle.vault_disk.specs.Steps.{Sends}
+use Rattle.vault_disk.specs.Steps.{Rests, Rose, SentPart}
 use Rattle.vault_disk.specs.Input.{Input}
 use Rattle.vault_disk.specs.Ticks.{Ticks}
 use Rattle.pool_journal.specs.declared.fault.JournalFault.{JournalFault}
 use Rattle.pool_journal.specs.declared.fault.JournalFault.TheVariants as journal
-use Rattle.site_types.specs.Limits.{payload_limit}
-use Rattle.desk_model.specs.State.{State, durable}
-use Rattle.desk_model.specs.Settings.{file_requests}
-use Rattle.desk_model.specs.Replay.{Mark, plain, memory, fault, Entry, stepped, answer_of}
-use Rattle.site_desk.specs.Stands.{opened, stands, StandsFor}
-use Rattle.bp_cli.specs.Words.{timed_request}
-use Rattle.bp_cli.specs.Gather.{IsGiven, IsMoment, IsTooLong, IsUngathered}
-use Rattle.bp_cli.specs.declared.words.TimedRequest.{TimedRequest}
+use Rattle.desk_model.specs.State.{State, initial, durable}
+use Rattle.desk_model.specs.Replay.{Mark, plain, memory, fault, Entry, stepped, answer_of, after}
+use Rattle.site_desk.specs.Stands.{opened, stands, Standing, StandsFor}
 
--- nothing was carried out, or one request with its payload at a moment
+-- nothing was carried out, or one request with its payload at a moment; and this was answered
 pub data Outcome : Type 0 where
   refused : Answer → Outcome
-  carried : Entry → Outcome
+  carried : Entry → Answer → Outcome
 
--- the answer to a run that begins in this state
-abbrev pub answer_given : State → Outcome → Answer
-answer_given s (refused answer) = answer
-answer_given s (carried e) = answer_of s e
+abbrev pub said : Outcome → Answer
+said (refused a) = a
+said (carried e a) = a
 
--- The request is what the words ask for, its payload is the whole of the source and within its limit, or none where it takes none, and it is carried out at the moment that the words
--- name, or else at one that the clock gave.
-pub record IsCarried (words : List (List ℕ)) (input input' : Input) (ticks ticks' : Ticks) (e : Entry) : Type 0 where
-  pub asked : TimedRequest
-  pub words_ask : timed_request words ≡ Ok asked
-  pub request : e.request ≡ asked.request
-  pub payload : IsGiven (takes_payload asked.request) e.payload input input'
-  pub short : length e.payload ≤ payload_limit
-  pub moment : IsMoment asked.moment e.moment ticks ticks'
+-- the answer is the model's, from this state
+abbrev pub IsModels : State → Outcome → Type 0
+IsModels s (refused a) = Unit {0}
+IsModels s (carried e a) = a ≡ answer_of s e
 
--- Nothing else is carried out, and a refusal has its reason: the index of the first bad word, a payload that is too long, or the offset
--- at which the vault is none. Want of memory and faults are told of by clauses of their own.
-abbrev pub IsAsked : List (List ℕ) → Image → Input → Input → Ticks → Ticks → Outcome → Type 0
-IsAsked words seen input input' ticks ticks' (refused OutOfMemory) = Unit {0}
-IsAsked words seen input input' ticks ticks' (refused (BadRequest index)) = timed_request words ≡ Err index
-IsAsked words seen input input' ticks ticks' (refused (TooMany kind count limit)) = (asked : TimedRequest) × (timed_request words ≡ Ok asked) × IsTooLong (takes_payload asked.request) kind count limit input
-IsAsked words seen input input' ticks ticks' (refused DiskFault) = Unit {0}
-IsAsked words seen input input' ticks ticks' (refused ReadFault) = Unit {0}
-IsAsked words seen input input' ticks ticks' (refused ClockFault) = Unit {0}
-IsAsked words seen input input' ticks ticks' (refused (NotAVault offset)) = opened seen ≡ Err offset
-IsAsked words seen input input' ticks ticks' (refused _) = ⊥
-IsAsked words seen input input' ticks ticks' (carried e) = IsCarried words input input' ticks ticks' e
+-- the state after each of these
+abbrev pub after_outcome : State → Outcome → State
+after_outcome s (refused a) = s
+after_outcome s (carried e a) = after s e
 
--- a request on an open vault
-abbrev pub IsExecuted : TimedRequest → Input → Input → Ticks → Ticks → Outcome → Type 0
-IsExecuted asked input input' ticks ticks' (refused answer) = IsUngathered (takes_payload asked.request) answer input
-IsExecuted asked input input' ticks ticks' (carried e) = (e.request ≡ asked.request) × IsGiven (takes_payload asked.request) e.payload input input' × (length e.payload ≤ payload_limit) × IsMoment asked.moment e.moment ticks ticks'
+abbrev pub state_after : State → List Outcome → State
+state_after s [] = s
+state_after s (o ∷ os) = state_after (after_outcome s o) os
 
--- what is answered to words that ask for nothing
-abbrev pub word_refusal_of : WordFault → Answer
-word_refusal_of (words.Bad index) = BadRequest index
-word_refusal_of words.NoMemory = OutOfMemory
-
--- what is answered where the vault can't be opened
-abbrev pub refusal_of : JournalFault → Answer
-refusal_of journal.NoMemory = OutOfMemory
-refusal_of journal.DiskFault = DiskFault
-refusal_of (journal.NotAVault offset) = NotAVault offset
-
--- a payload that is to be loaded is no site file
-pub record IsNoFile (asked : TimedRequest) (input input' : Input) (index : ℕ) : Type 0 where
-  pub load : asked.request ≡ Load
-  pub first : index ≡ 1
-  pub payload : List ℕ
-  pub given : IsGiven (takes_payload asked.request) payload input input'
-  pub none : file_requests payload ≡ None
-
--- what a request on an open vault may be answered
-abbrev pub IsOfRequest : TimedRequest → Input → Input → Answer → Type 0
-IsOfRequest asked input input' (BadRequest index) = IsNoFile asked input input' index
-IsOfRequest asked input input' (NotAVault offset) = ⊥
-IsOfRequest asked input input' SendFault = ⊥
-IsOfRequest asked input input' _ = Unit {0}
+-- each answer is the model's, from the state after those before
+abbrev pub AreModels : State → List Outcome → Type 0
+AreModels s [] = Unit {0}
+AreModels s (o ∷ os) = IsModels s o × AreModels (after_outcome s o) os
 
 -- the image stands for the state that a mark leaves; after a fault it may be the one before
 abbrev pub EndsBy : State → Entry → Mark → Image → Type 0
@@ -93,55 +48,135 @@ EndsBy s e memory c = stands c ≡ Some (durable s)
 EndsBy s e fault c = StandsFor s (stepped s e).1 c
 
 abbrev pub Ends : State → Outcome → Image → Type 0
-Ends s (refused answer) c = stands c ≡ Some (durable s)
-Ends s (carried e) c = EndsBy s e e.mark c
+Ends s (refused a) c = stands c ≡ Some (durable s)
+Ends s (carried e a) c = EndsBy s e e.mark c
 
--- A stop leaves the state before, and nothing of the reply was sent; or the state that the outcome ends in, and at most the reply was.
-pub record Replied (s : State) (o : Outcome) (base : List ℕ) (c : Image) (b : List ℕ) : Type 0 where
-  pub ends : Ends s o c
-  pub rest : List ℕ
-  pub sent : b ++ rest ≡ base ++ text_of (answer_given s o)
+-- the image stands for the state after these; only the last may have met a fault
+abbrev pub EndsAfter : State → List Outcome → Image → Type 0
+EndsAfter s [] c = stands c ≡ Some (durable s)
+EndsAfter s (o ∷ []) c = Ends s o c
+EndsAfter s (o ∷ p ∷ os) c = EndsAfter (after_outcome s o) (p ∷ os) c
 
-abbrev pub Covered : State → Outcome → List ℕ → Image → List ℕ → Type 0
-Covered s o base c b = ((stands c ≡ Some (durable s)) × (b ≡ base)) ⊎ Replied s o base c b
+-- their replies, one behind the other: each is the text of the answer, or in a session that with its frame
+abbrev pub replies : (Answer → List ℕ) → List Outcome → List ℕ
+replies text [] = []
+replies text (o ∷ os) = text (said o) ++ replies text os
 
--- A request was answered on a vault, and nothing is sent yet.
-pub record Answers (s : State) (words : List (List ℕ)) (disk disk' : Disk) (input input' : Input) (ticks ticks' : Ticks) (a : Answer) : Type 0 where
+-- a text was sent in whole, or with the status 20 a first part of it
+pub record IsSent (text base sent : List ℕ) (status : ℕ) : Type 0 where
+  pub part : SentPart base text sent
+  pub whole : status ≢ 20 → sent ≡ base ++ text
+
+-- the whole replies of all but the last were sent, and that of the last in whole, or with the status 20 in part
+abbrev pub AreSent : (Answer → List ℕ) → List Outcome → List ℕ → List ℕ → ℕ → Type 0
+AreSent text [] base sent status = sent ≡ base
+AreSent text (o ∷ []) base sent status = IsSent (text (said o)) base sent status
+AreSent text (o ∷ p ∷ os) base sent status = AreSent text (p ∷ os) (base ++ text (said o)) sent status
+
+-- A stop leaves the state after the first of them, and at most the replies to these were sent.
+pub record Covered (text : Answer → List ℕ) (s : State) (os : List Outcome) (base : List ℕ) (c : Image) (b : List ℕ) : Type 0 where
+  pub done : List Outcome
+  pub more : List Outcome
+  pub split : os ≡ done ++ more
+  pub ends : EndsAfter s done c
+  pub sent : SentPart base (replies text done) b
+
+-- a fault is answered only where a call of its object failed: the counts of the faults of the vault, the source and the clock before and after
+abbrev pub HasRisen : ℕ → ℕ → ℕ → ℕ → ℕ → ℕ → Answer → Type 0
+HasRisen disk disk' input input' ticks ticks' DiskFault = Rose disk disk'
+HasRisen disk disk' input input' ticks ticks' ReadFault = Rose input input'
+HasRisen disk disk' input input' ticks ticks' ClockFault = Rose ticks ticks'
+HasRisen disk disk' input input' ticks ticks' _ = Unit {0}
+
+-- the last of these answers, if there is one
+abbrev pub IfLast : (Answer → Type 0) → List Outcome → Type 0
+IfLast P [] = Unit {0}
+IfLast P (o ∷ []) = P (said o)
+IfLast P (o ∷ p ∷ os) = IfLast P (p ∷ os)
+
+-- each image that a stop may leave now stands for the state in which these end, and each pair from one disk to the other is covered by them
+pub record Leaves (text : Answer → List ℕ) (s : State) (disk disk' : Disk) (os : List Outcome) : Type 0 where
+  pub now : (c : Image) → disk'.may_leave c → EndsAfter s os c
+  pub during : During disk disk' (Covered text s os disk.sent)
+
+-- the same of a whole run
+pub record StopsFrom (text : Answer → List ℕ) (s : State) (disk disk' : Disk) (os : List Outcome) : Type 0 where
+  pub found : opened disk.seen ≡ Ok s
+  pub now : (c : Image) → disk'.may_leave c → EndsAfter s os c
+  pub pairs : (c : Image) (b : List ℕ) → disk'.left_since disk.moment c b → Covered text s os disk.sent c b
+
+-- On a vault that stands for a state when the run begins: each image that a stop may leave behind it stands for the state in which the outcomes end; and wherever the run stops, the
+-- image stands for the state after the first of them, each of those of whose reply a byte was sent among them.
+abbrev pub Stops : (Answer → List ℕ) → Disk → Disk → List Outcome → Type 0
+Stops text disk disk' os = (s : State) → disk.tells → Standing disk s → StopsFrom text (durable s) disk disk' os
+
+-- the number of an answer, or 20 where its send failed
+abbrev pub IsStatus : ℕ → Disk → Disk → ℕ → Type 0
+IsStatus number old new status = (status ≡ number) ⊎ ((status ≡ 20) × Rose old.send_faults new.send_faults)
+
+-- These outcomes were answered, in texts of this form, and the run ended with the number, or with 20 where a send failed.
+pub record Replied (text : Answer → List ℕ) (os : List Outcome) (number : ℕ) (disk disk' : Disk) (input input' : Input) (ticks ticks' : Ticks) (status : ℕ) : Type 0 where
+  pub faults : IfLast (HasRisen disk.faults disk'.faults input.faults input'.faults ticks.faults ticks'.faults) os
+  pub status_is : IsStatus number disk disk' status
+  pub sent : disk.tells → AreSent text os disk.sent disk'.sent status
+
+-- the vault is open: where it tells what it holds, it stands for this state
+pub record Opening (tells : Type 0) (seen : Image) : Type 0 where
+  pub state : State
+  pub stands : tells → opened seen ≡ Ok state
+
+-- the state that a vault stands for; where it stands for none, that of a new one
+abbrev pub state_in : Result State ℕ → State
+state_in (Ok s) = s
+state_in (Err at) = initial
+
+-- what is answered where the vault can't be opened
+abbrev pub refusal_of : JournalFault → Answer
+refusal_of journal.NoMemory = OutOfMemory
+refusal_of journal.DiskFault = DiskFault
+refusal_of (journal.NotAVault offset) = NotAVault offset
+
+-- what a request did on a vault, and nothing is sent yet
+pub record Acts (s : State) (disk disk' : Disk) (o : Outcome) : Type 0 where
+  pub now : (c : Image) → disk'.may_leave c → Ends s o c
+  pub during : During disk disk' (λ c b. ((stands c ≡ Some (durable s)) ⊎ Ends s o c) × (b ≡ disk.sent))
+
+-- A desk with this state answered a request, has that state afterwards, and sent nothing yet; and this is so of what came of it.
+pub record Acted (Why : Outcome → Type 0) (s s' : State) (disk disk' : Disk) (a : Answer) : Type 0 where
   pub outcome : Outcome
-  pub asked : IsAsked words disk.seen input input' ticks ticks' outcome
-  pub is : a ≡ answer_given s outcome
-  pub now : (c : Image) → disk'.may_leave c → Ends s outcome c
-  pub during : During disk disk' (λ c b. ((stands c ≡ Some (durable s)) ⊎ Ends s outcome c) × (b ≡ disk.sent))
+  pub why : Why outcome
+  pub is : said outcome ≡ a
+  pub models : disk.tells → IsModels s outcome
+  pub moves : disk.tells → a ≢ DiskFault → s' ≡ after_outcome s outcome
+  pub acts : disk.tells → Standing disk s → Acts s disk disk' outcome
 
--- What a request does to a desk that has this state.
-pub record Executes (s : State) (asked : TimedRequest) (disk disk' : Disk) (input input' : Input) (ticks ticks' : Ticks) (a : Answer) : Type 0 where
+-- a text was sent, and reads of the vault give the same
+pub record Delivers (text : List ℕ) (old new : Disk) (status : ℕ) : Type 0 where
+  pub sent : IsSent text old.sent new.sent status
+  pub rests : Rests old new
+  pub during : During old new (λ c b. old.may_leave c × SentPart old.sent text b)
+
+-- an answer was sent, or want of memory where none is left for its text
+pub record Sent (text : Answer → List ℕ) (a : Answer) (old new : Disk) (status : ℕ) : Type 0 where
+  pub answer : Answer
+  pub is : (answer ≡ a) ⊎ ((answer ≡ OutOfMemory) × NeedsMemory a)
+  pub status_is : IsStatus (number_of answer) old new status
+  pub sends : old.tells → Delivers (text answer) old new status
+
+-- before a request the disk stands for the state before it and nothing of its reply is sent; afterwards for the one in which it ends, and at most its reply is
+abbrev pub CoversOne : (Answer → List ℕ) → State → Outcome → List ℕ → Image → List ℕ → Type 0
+CoversOne text s o base c b = ((stands c ≡ Some (durable s)) × (b ≡ base)) ⊎ (Ends s o c × SentPart base (text (said o)) b)
+
+pub record One (text : Answer → List ℕ) (s : State) (disk disk' : Disk) (o : Outcome) : Type 0 where
+  pub now : (c : Image) → disk'.may_leave c → Ends s o c
+  pub during : During disk disk' (CoversOne text s o disk.sent)
+
+-- the same of a request whose reply was sent
+pub record RepliesTo (Why : Outcome → Type 0) (text : Answer → List ℕ) (s s' : State) (disk disk' : Disk) (status : ℕ) : Type 0 where
   pub outcome : Outcome
-  pub executed : IsExecuted asked input input' ticks ticks' outcome
-  pub is : a ≡ answer_given s outcome
-  pub now : (c : Image) → disk'.may_leave c → Ends s outcome c
-  pub during : During disk disk' (λ c b. ((stands c ≡ Some (durable s)) ⊎ Ends s outcome c) × (b ≡ disk.sent))
-
--- a text was sent in whole, or in part with status 20
-pub record Delivers (text : List ℕ) (number : ℕ) (old new : Disk) (status : ℕ) : Type 0 where
-  pub result : Result (Unit {0}) (Unit {0})
-  pub sends : Sends text old new result
-  pub status_is : MatchResult result (λ _. status ≡ number) (λ _. status ≡ 20)
-
--- An answer was sent in whole, or in part with status 20. Where no memory is left for its text it is want of memory.
-pub record Replies (a : Answer) (old new : Disk) (status : ℕ) : Type 0 where
-  pub sent : Answer
-  pub is : (sent ≡ a) ⊎ ((sent ≡ OutOfMemory) × NeedsMemory a)
-  pub result : Result (Unit {0}) (Unit {0})
-  pub sends : Sends (text_of sent) old new result
-  pub status_is : MatchResult result (λ _. status ≡ number_of sent) (λ _. status ≡ 20)
-
--- A run from a state: what is sent is the model's answer, or its first bytes where a send failed, and wherever the run stops the disk
--- stands for the state before or for the one that it ends in, which it does once a byte of the reply was sent.
-pub record Ran (s : State) (words : List (List ℕ)) (disk disk' : Disk) (input input' : Input) (ticks ticks' : Ticks) (status : ℕ) : Type 0 where
-  pub outcome : Outcome
-  pub asked : IsAsked words disk.seen input input' ticks ticks' outcome
-  pub status_is : (status ≡ number_of (answer_given s outcome)) ⊎ (status ≡ 20)
-  pub sent : status ≢ 20 → disk'.sent ≡ disk.sent ++ text_of (answer_given s outcome)
-  pub part : (rest : List ℕ) × (disk'.sent ++ rest ≡ disk.sent ++ text_of (answer_given s outcome))
-  pub now : (c : Image) → disk'.may_leave c → Ends s outcome c
-  pub stops : (c : Image) (b : List ℕ) → disk'.left_since disk.moment c b → Covered s outcome disk.sent c b
+  pub why : Why outcome
+  pub models : disk.tells → IsModels s outcome
+  pub moves : disk.tells → said outcome ≢ DiskFault → s' ≡ after_outcome s outcome
+  pub status_is : IsStatus (number_of (said outcome)) disk disk' status
+  pub sent : disk.tells → IsSent (text (said outcome)) disk.sent disk'.sent status
+  pub one : disk.tells → Standing disk s → One text s disk disk' outcome

@@ -1,20 +1,18 @@
 // A single request from its words to its answer: the vault is opened, the payload and the moment are gathered, and it is carried out.
-ghost use Rattle.std.specs.Prelude.{◌≡◌, ◌≢◌, ◌⊎◌, ℕ, false, MatchResult};
+ghost use Rattle.std.specs.Prelude.{◌≡◌, false};
 ghost use Rattle.site_types.specs.Lines.{IsFormed};
 ghost use Rattle.vault_disk.specs.Disk.{IsSame};
-ghost use Rattle.vault_disk.specs.Steps.{Rose};
-ghost use Rattle.desk_model.specs.State.{State, durable};
-ghost use Rattle.site_desk.specs.Stands.{Standing};
-ghost use Rattle.bp_cli.specs.Causes.{IsCaused, IsCausedHere};
+ghost use Rattle.desk_model.specs.State.{State};
+ghost use Rattle.site_desk.specs.Stands.{opened};
 ghost use Rattle.bp_cli.specs.Gather.{IsLimited};
-ghost use Rattle.bp_cli.specs.Runs.{Answers, IsOfRequest, Executes, refusal_of, word_refusal_of};
-ghost use Rattle.bp_cli.specs.Words.{timed_request};
+ghost use Rattle.bp_cli.specs.Runs.{refusal_of, said, state_in, Acted, HasRisen};
+ghost use Rattle.bp_cli.specs.Singles.{IsAnswered, IsExecuted};
 
 use crate::gather::{Inputs, gather};
 use crate::words::{TimedRequest, read_timed_request};
 use pool_journal::JournalFault;
 use site_desk::Desk;
-use site_types::{Answer, Request, Text, WordFault};
+use site_types::{Answer, Text, WordFault};
 use std::alloc::Global;
 use vault_disk::{Clock, Source, Vault};
 
@@ -29,13 +27,8 @@ fn execute<V: Vault, S: Source, C: Clock>(
     requires running { desk.old.stopped ≡ false }
     requires limited { IsLimited timed.now.moment }
     requires formed { IsFormed timed.now.request }
-    ensures executes { (V.disk desk.old.vault).tells → Standing (V.disk desk.old.vault) desk.old.state → Executes desk.old.state timed.now (V.disk desk.old.vault) (V.disk desk.new.vault) (S.input source.old) (S.input source.new) (C.ticks clock.old) (C.ticks clock.new) result }
-    ensures caused { IsCausedHere timed.now (V.disk desk.old.vault).tells desk.old.state (S.input source.old) (S.input source.new) (C.ticks clock.old) (C.ticks clock.new) result }
-    ensures of_request { IsOfRequest timed.now (S.input source.old) (S.input source.new) result }
+    ensures acted { Acted (λ o. IsExecuted timed.now (S.input source.old) (S.input source.new) (C.ticks clock.old) (C.ticks clock.new) o × HasRisen (V.disk desk.old.vault).faults (V.disk desk.new.vault).faults (S.input source.old).faults (S.input source.new).faults (C.ticks clock.old).faults (C.ticks clock.new).faults (said o)) desk.old.state desk.new.state (V.disk desk.old.vault) (V.disk desk.new.vault) result }
     ensures same { IsSame (V.disk desk.old.vault) (V.disk desk.new.vault) }
-    ensures disk_fault { result ≡ Answer.DiskFault → Rose (V.disk desk.old.vault).faults (V.disk desk.new.vault).faults }
-    ensures read_fault { result ≡ Answer.ReadFault → Rose (S.input source.old).faults (S.input source.new).faults }
-    ensures clock_fault { result ≡ Answer.ClockFault → Rose (C.ticks clock.old).faults (C.ticks clock.new).faults }
 {
     match gather(
         alloc,
@@ -48,16 +41,6 @@ fn execute<V: Vault, S: Source, C: Clock>(
             desk.step(alloc, &timed.request, payload.bytes(), moment)
         }
         Err(answer) => answer,
-    }
-}
-
-// The answer to words that ask for nothing.
-fn word_refusal(fault: WordFault) -> Answer
-    ensures { result ≡ word_refusal_of fault }
-{
-    match fault {
-        WordFault::Bad { index } => Answer::BadRequest { index },
-        WordFault::NoMemory => Answer::OutOfMemory,
     }
 }
 
@@ -80,18 +63,13 @@ pub fn answered<V: Vault, S: Source, C: Clock>(
     source: &mut S,
     clock: &mut C,
 ) -> (V, Answer)
-    ensures answers { (s : State) → (V.disk vault).tells → Standing (V.disk vault) s → Answers (durable s) words.now (V.disk vault) (V.disk result.0) (S.input source.old) (S.input source.new) (C.ticks clock.old) (C.ticks clock.new) result.1 }
-    ensures caused { IsCaused words.now (V.disk vault).tells (V.disk vault).seen (S.input source.old) (S.input source.new) (C.ticks clock.old) (C.ticks clock.new) result.1 }
-    ensures sendable { result.1 ≢ Answer.SendFault }
-    ensures bad_words { MatchResult (timed_request words.now) (λ said. said.request ≢ Request.Load → (index : ℕ) → result.1 ≢ Answer.BadRequest index) (λ index. (result.1 ≡ Answer.BadRequest index) ⊎ (result.1 ≡ Answer.OutOfMemory)) }
+    ensures acted { (state : State) × Acted (IsAnswered words.now (V.disk vault) (V.disk result.0) (S.input source.old) (S.input source.new) (C.ticks clock.old) (C.ticks clock.new)) (state_in (opened (V.disk vault).seen)) state (V.disk vault) (V.disk result.0) result.1 }
     ensures same { IsSame (V.disk vault) (V.disk result.0) }
-    ensures disk_fault { result.1 ≡ Answer.DiskFault → Rose (V.disk vault).faults (V.disk result.0).faults }
-    ensures read_fault { result.1 ≡ Answer.ReadFault → Rose (S.input source.old).faults (S.input source.new).faults }
-    ensures clock_fault { result.1 ≡ Answer.ClockFault → Rose (C.ticks clock.old).faults (C.ticks clock.new).faults }
 {
     let timed = match read_timed_request(alloc, words) {
         Ok(timed) => timed,
-        Err(fault) => return (vault, word_refusal(fault)),
+        Err(WordFault::Bad { index }) => return (vault, Answer::BadRequest { index }),
+        Err(WordFault::NoMemory) => return (vault, Answer::OutOfMemory),
     };
     match Desk::open_vault(alloc, vault) {
         Ok(mut desk) => {

@@ -1,15 +1,19 @@
 // The replies of a session: each text with its frame, the number of the answer and the length of the text.
-ghost use Rattle.std.specs.Prelude.{◌≡◌, ◌⊎◌, ◌≤◌, ◌+◌, [], ◌∷◌, ◌++◌, length, IfOk, vec_capacity, vec_len};
+ghost use Rattle.std.specs.Prelude.{◌≡◌, ◌≤◌, ◌+◌, [], ◌∷◌, ◌++◌, length, IfOk, vec_capacity, vec_len};
 ghost use Rattle.std.specs.Fmt.{decimal};
-ghost use Rattle.site_types.specs.Answers.{number_of, text_of, NeedsMemory};
+ghost use Rattle.site_types.specs.Answers.{text_of};
 ghost use Rattle.vault_disk.specs.Steps.{HasCause, IsSameBut, Sends};
-ghost use Rattle.bp_cli.specs.Sessions.{frame, RepliesFramed};
+ghost use Rattle.bp_cli.specs.Runs.{Delivers, IsStatus, Sent};
+ghost use Rattle.bp_cli.specs.Sessions.{frame, framed};
 
 use itoa::Buffer;
 use site_desk::Desk;
 use site_types::{Answer, NoMemory};
 use std::alloc::Global;
 use vault_disk::{Failed, Machine};
+
+/// The status of a run whose send failed.
+pub const SEND_FAULT: u8 = 20;
 
 // Room for a frame: two numbers of at most 40 characters, a space and a line feed.
 const HEAD: usize = 128;
@@ -85,42 +89,35 @@ pub fn made_text(alloc: Global, answer: &Answer) -> Result<Vec<u8>, NoMemory>
     Ok(text)
 }
 
-fn send_numbered<M: Machine>(
-    desk: &mut Desk<M>,
-    head: &mut Vec<u8>,
-    number: u8,
-    text: &[u8],
-) -> Result<u8, Failed>
+// Sends a text with its frame. The status is this number, or 20 where the send fails.
+fn send_numbered<M: Machine>(desk: &mut Desk<M>, head: &mut Vec<u8>, number: u8, text: &[u8]) -> u8
     requires room { 128 ≤ vec_capacity head.old }
     ensures state { (M.disk desk.old.vault).tells → desk.new.state ≡ desk.old.state }
     ensures stopped { desk.new.stopped ≡ desk.old.stopped }
-    ensures sends { (M.disk desk.old.vault).tells → Sends (frame number text.now) (M.disk desk.old.vault) (M.disk desk.new.vault) result }
-    ensures number { IfOk result (λ n. n ≡ number) }
+    ensures delivers { (M.disk desk.old.vault).tells → Delivers (frame number text.now) (M.disk desk.old.vault) (M.disk desk.new.vault) result }
+    ensures status { IsStatus number (M.disk desk.old.vault) (M.disk desk.new.vault) result }
     ensures same { IsSameBut (M.disk desk.old.vault) (M.disk desk.new.vault) }
-    ensures cause { HasCause (M.disk desk.old.vault).send_faults (M.disk desk.new.vault).send_faults result }
     ensures room { 128 ≤ vec_capacity head.new }
 {
     match send_frame(desk, head, number, text) {
-        Ok(()) => Ok(number),
-        Err(failed) => Err(failed),
+        Ok(()) => number,
+        Err(_) => SEND_FAULT,
     }
 }
 
-/// Sends an answer with its frame, and gives the number that was sent. Where no memory is left for its text, want of memory is sent in
-/// its place.
+/// Sends an answer with its frame, and gives the number that was sent, or 20 where the send failed. Where no memory is left for its
+/// text, want of memory is sent in its place.
 pub fn reply_framed<M: Machine>(
     alloc: Global,
     desk: &mut Desk<M>,
     head: &mut Vec<u8>,
     answer: &Answer,
-) -> Result<u8, Failed>
+) -> u8
     requires room { 128 ≤ vec_capacity head.old }
     ensures state { (M.disk desk.old.vault).tells → desk.new.state ≡ desk.old.state }
     ensures stopped { desk.new.stopped ≡ desk.old.stopped }
-    ensures replies { (M.disk desk.old.vault).tells → RepliesFramed answer.now (M.disk desk.old.vault) (M.disk desk.new.vault) result }
-    ensures number { IfOk result (λ n. (n ≡ number_of answer.now) ⊎ ((n ≡ 1) × NeedsMemory answer.now)) }
+    ensures sent { Sent framed answer.now (M.disk desk.old.vault) (M.disk desk.new.vault) result }
     ensures same { IsSameBut (M.disk desk.old.vault) (M.disk desk.new.vault) }
-    ensures cause { HasCause (M.disk desk.old.vault).send_faults (M.disk desk.new.vault).send_faults result }
     ensures room { 128 ≤ vec_capacity head.new }
 {
     match answer.ready_text() {

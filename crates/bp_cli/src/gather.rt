@@ -1,10 +1,8 @@
 // What a single request is given: its payload from the source, and its moment.
-ghost use Rattle.std.specs.Prelude.{◌≡◌, ◌≤◌, ◌++◌, codes, length, None, IfOk, IfErr, OnErr};
-ghost use Rattle.vault_disk.specs.Steps.{Rose};
-ghost use Rattle.vault_disk.specs.Input.{IsSameInput};
+ghost use Rattle.std.specs.Prelude.{◌≡◌, ◌≤◌, codes, IfOk, IfErr, OnErr};
 ghost use Rattle.vault_disk.specs.Ticks.{IsSameClock};
-ghost use Rattle.site_types.specs.Limits.{last_moment, payload_limit};
-ghost use Rattle.bp_cli.specs.Gather.{clock_moment, Gathers, IsLimited, IsMoment, IsTooLongOr, IsUngathered};
+ghost use Rattle.site_types.specs.Limits.{last_moment};
+ghost use Rattle.bp_cli.specs.Gather.{Gathers, IsLimited, IsMoment, IsTooLongOr, IsUngathered, IsUntimed};
 
 use crate::payload::{Taken, take_given};
 use site_types::{Answer, NoMemory, PAYLOAD_LIMIT, Text};
@@ -42,11 +40,8 @@ pub fn moment_at<C: Clock>(named: Option<u64>, clock: &mut C) -> Result<u64, Fai
     requires limited { IsLimited named }
     ensures limit { IfOk result (λ m. m ≤ last_moment) }
     ensures moment { IfOk result (λ m. IsMoment named m (C.ticks clock.old) (C.ticks clock.new)) }
-    ensures taken { (C.ticks clock.old).tells → IfOk result (λ m. (C.ticks clock.new).gave ≡ (C.ticks clock.old).gave ++ clock_moment named m) }
-    ensures kept { (C.ticks clock.old).tells → OnErr result ((C.ticks clock.new).gave ≡ (C.ticks clock.old).gave) }
+    ensures untimed { OnErr result (IsUntimed named (C.ticks clock.old) (C.ticks clock.new)) }
     ensures same { IsSameClock (C.ticks clock.old) (C.ticks clock.new) }
-    ensures unnamed { OnErr result (named ≡ None) }
-    ensures failed { OnErr result (Rose (C.ticks clock.old).faults (C.ticks clock.new).faults) }
 {
     match named {
         Some(moment) => Ok(moment),
@@ -54,8 +49,8 @@ pub fn moment_at<C: Clock>(named: Option<u64>, clock: &mut C) -> Result<u64, Fai
     }
 }
 
-/// Takes the payload from a source, where the request takes one, and finds the moment: the one that is named, or else that of the
-/// clock.
+/// Takes the payload from a source, where the request takes one, and then finds the moment: the one that is named, or else that of
+/// the clock.
 pub fn gather<S: Source, C: Clock>(
     alloc: Global,
     takes: bool,
@@ -65,9 +60,7 @@ pub fn gather<S: Source, C: Clock>(
 ) -> Result<Inputs, Answer>
     requires limited { IsLimited named }
     ensures gathered { IfOk result (λ g. Gathers takes named (S.input source.old) (S.input source.new) (C.ticks clock.old) (C.ticks clock.new) g) }
-    ensures refused { IfErr result (λ a. IsUngathered takes a (S.input source.old)) }
-    ensures read_fault { IfErr result (λ a. a ≡ Answer.ReadFault → Rose (S.input source.old).faults (S.input source.new).faults) }
-    ensures clock_fault { IfErr result (λ a. a ≡ Answer.ClockFault → Rose (C.ticks clock.old).faults (C.ticks clock.new).faults) }
+    ensures refused { IfErr result (λ a. IsUngathered takes named (S.input source.old) (S.input source.new) (C.ticks clock.old) (C.ticks clock.new) a) }
 {
     let payload = match take_given(alloc, takes, source) {
         Taken::Whole(payload) => payload,

@@ -1,13 +1,13 @@
 // The payload of a single request: the source to its end.
-ghost use Rattle.std.specs.Prelude.{◌≡◌, ◌≤◌, ◌<◌, ◌++◌, [], length, IfOk, vec_len};
+ghost use Rattle.std.specs.Prelude.{◌≡◌, ◌<◌, [], length};
 ghost use Rattle.vault_disk.specs.Input.{IsSameInput};
 ghost use Rattle.vault_disk.specs.Steps.{Rose};
 ghost use Rattle.site_types.specs.Limits.{payload_limit};
 ghost use Rattle.bp_cli.specs.Payload.{IsTaken, IsTakenFor, IsShort};
 
-use site_types::{NoMemory, PAYLOAD_LIMIT, Text};
+use site_types::{PAYLOAD_LIMIT, Text};
 use std::alloc::Global;
-use vault_disk::Source;
+use vault_disk::{Source, zeros};
 
 const MOST: usize = PAYLOAD_LIMIT as usize;
 
@@ -49,12 +49,6 @@ fn take_blocks<S: Source>(source: &mut S, bytes: Vec<u8>, block: &mut [u8]) -> T
     }
 }
 
-fn zeros(alloc: Global, count: usize) -> Result<Vec<u8>, NoMemory>
-    ensures { IfOk result (λ v. length v.items ≡ count) }
-{
-    vec![in alloc; 0u8; count]
-}
-
 /// Takes all that is left of a source.
 pub fn take_payload<S: Source>(alloc: Global, source: &mut S) -> Taken
     ensures taken { (S.input source.old).tells → IsTaken (S.input source.old).left result (S.input source.new).left }
@@ -68,7 +62,7 @@ pub fn take_payload<S: Source>(alloc: Global, source: &mut S) -> Taken
     }
 }
 
-/// Takes the payload of a request from a source; for one that takes none it leaves the source as it is.
+/// Takes the payload of a request from a source; for one that takes none the source isn't read.
 pub fn take_given<S: Source>(alloc: Global, takes: bool, source: &mut S) -> Taken
     ensures taken { IsTakenFor takes (S.input source.old) result (S.input source.new) }
     ensures short { IsShort result }

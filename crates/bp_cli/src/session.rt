@@ -1,33 +1,32 @@
 // A run: a single request or a session, by its words.
-ghost use Rattle.std.specs.Prelude.{◌≡◌, ◌≢◌, ◌⊎◌, true, false, codes, IfOk, MatchResult};
+ghost use Rattle.std.specs.Prelude.{◌≡◌, true, false, codes, Some, IfOk};
 ghost use Rattle.std.specs.Str.{bytes_eq};
-ghost use Rattle.site_types.specs.Answers.{number_of};
-ghost use Rattle.vault_disk.specs.Disk.{IsLater};
-ghost use Rattle.vault_disk.specs.Steps.{IsSameBut, Rose};
-ghost use Rattle.desk_model.specs.State.{State, durable};
-ghost use Rattle.site_desk.specs.Stands.{opened, Standing};
-ghost use Rattle.bp_cli.specs.Causes.{Caused, SessionCaused};
-ghost use Rattle.bp_cli.specs.Words.{is_session, names_session, timed_request};
-ghost use Rattle.bp_cli.specs.Runs.{refusal_of, Ran, Replies, Delivers};
-ghost use Rattle.bp_cli.specs.Sessions.{framed, RanSession, RepliesUnopened, Serves};
+ghost use Rattle.site_types.specs.Answers.{text_of};
+ghost use Rattle.vault_disk.specs.Disk.{Image, IsLater};
+ghost use Rattle.vault_disk.specs.Steps.{IsSameBut};
+ghost use Rattle.desk_model.specs.State.{State};
+ghost use Rattle.desk_model.specs.Sound.{Sound, KeepsCopies};
+ghost use Rattle.site_desk.specs.Stands.{stands};
+ghost use Rattle.bp_cli.specs.Words.{is_session, names_session};
+ghost use Rattle.bp_cli.specs.Runs.{refusal_of, Delivers, IsStatus, Sent};
+ghost use Rattle.bp_cli.specs.Singles.{Ran, RanBad};
+ghost use Rattle.bp_cli.specs.Sessions.{framed, RanSession};
 
 use crate::execute::answered;
-use crate::frame::{made_text, new_head, write_head};
+use crate::frame::{SEND_FAULT, made_text, new_head, write_head};
 use crate::serve::serve;
-use crate::turn::SEND_FAULT;
 use pool_journal::JournalFault;
 use session_text::SessionText;
 use site_desk::Desk;
-use site_types::{Answer, NoMemory, Request, Text};
+use site_types::{Answer, NoMemory, Text};
 use std::alloc::Global;
 use vault_disk::{Clock, Machine, Source};
 
 // Sends a text. The status is this number, or 20 where the send fails.
 fn deliver<M: Machine>(machine: &mut M, text: &[u8], number: u8) -> u8
-    ensures delivers { (M.disk machine.old).tells → Delivers text.now number (M.disk machine.old) (M.disk machine.new) result }
+    ensures delivers { (M.disk machine.old).tells → Delivers text.now (M.disk machine.old) (M.disk machine.new) result }
+    ensures status { IsStatus number (M.disk machine.old) (M.disk machine.new) result }
     ensures same { IsSameBut (M.disk machine.old) (M.disk machine.new) }
-    ensures unsent { result ≢ number → Rose (M.disk machine.old).send_faults (M.disk machine.new).send_faults }
-    ensures status { (result ≡ number) ⊎ (result ≡ 20) }
 {
     match machine.send(text) {
         Ok(()) => number,
@@ -37,10 +36,8 @@ fn deliver<M: Machine>(machine: &mut M, text: &[u8], number: u8) -> u8
 
 // Sends the text of an answer; where no memory is left for it, that of want of memory.
 fn reply<M: Machine>(alloc: Global, machine: &mut M, answer: &Answer) -> u8
-    ensures replies { (M.disk machine.old).tells → Replies answer.now (M.disk machine.old) (M.disk machine.new) result }
+    ensures sent { Sent text_of answer.now (M.disk machine.old) (M.disk machine.new) result }
     ensures same { IsSameBut (M.disk machine.old) (M.disk machine.new) }
-    ensures status { (result ≡ number_of answer.now) ⊎ ((result ≡ 1) ⊎ (result ≡ 20)) }
-    ensures unsent { result ≡ 20 → answer.now ≢ Answer.SendFault → Rose (M.disk machine.old).send_faults (M.disk machine.new).send_faults }
 {
     match answer.ready_text() {
         Some(text) => deliver(machine, text, answer.number()),
@@ -59,13 +56,7 @@ fn run_single<M: Machine, S: Source, C: Clock>(
     source: &mut S,
     clock: &mut C,
 ) -> u8
-    ensures ran { (s : State) → (M.disk machine.old).tells → Standing (M.disk machine.old) s → Ran (durable s) words.now (M.disk machine.old) (M.disk machine.new) (S.input source.old) (S.input source.new) (C.ticks clock.old) (C.ticks clock.new) result }
-    ensures caused { Caused words.now (M.disk machine.old).tells (M.disk machine.old).seen (S.input source.old) (S.input source.new) (C.ticks clock.old) (C.ticks clock.new) result }
-    ensures bad_words { MatchResult (timed_request words.now) (λ said. said.request ≢ Request.Load → result ≢ 2) (λ _. (result ≡ 2) ⊎ ((result ≡ 1) ⊎ (result ≡ 20))) }
-    ensures disk_fault { result ≡ 18 → Rose (M.disk machine.old).faults (M.disk machine.new).faults }
-    ensures read_fault { result ≡ 19 → Rose (S.input source.old).faults (S.input source.new).faults }
-    ensures send_fault { result ≡ 20 → Rose (M.disk machine.old).send_faults (M.disk machine.new).send_faults }
-    ensures clock_fault { result ≡ 21 → Rose (C.ticks clock.old).faults (C.ticks clock.new).faults }
+    ensures ran { Ran words.now (M.disk machine.old) (M.disk machine.new) (S.input source.old) (S.input source.new) (C.ticks clock.old) (C.ticks clock.new) result }
 {
     let (machine, answer) = answered(alloc, words, machine, source, clock);
     reply(alloc, machine, &answer)
@@ -84,10 +75,8 @@ fn frame_of(alloc: Global, answer: &Answer) -> Result<Vec<u8>, NoMemory>
 
 // Answers a session whose vault isn't opened.
 fn reply_unopened<M: Machine>(alloc: Global, machine: &mut M, fault: JournalFault) -> u8
-    ensures replies { (M.disk machine.old).tells → RepliesUnopened (refusal_of fault) (M.disk machine.old) (M.disk machine.new) result }
+    ensures sent { Sent framed (refusal_of fault) (M.disk machine.old) (M.disk machine.new) result }
     ensures same { IsSameBut (M.disk machine.old) (M.disk machine.new) }
-    ensures status { (result ≡ number_of (refusal_of fault)) ⊎ ((result ≡ 1) ⊎ (result ≡ 20)) }
-    ensures unsent { result ≡ 20 → Rose (M.disk machine.old).send_faults (M.disk machine.new).send_faults }
 {
     match fault {
         JournalFault::NoMemory => deliver(machine, b"1 14\nout of memory\n", 1),
@@ -108,13 +97,8 @@ fn session_on<M: Machine, S: Source, C: Clock>(
     source: &mut S,
     clock: &mut C,
 ) -> (M, u8)
-    ensures serves { (s : State) → (M.disk machine).tells → Standing (M.disk machine) s → Serves (opened (M.disk machine).seen) (durable s) (M.disk machine) (M.disk result.0) (S.input source.old) (S.input source.new) (C.ticks clock.old) (C.ticks clock.new) result.1 }
-    ensures session_caused { SessionCaused (M.disk machine) (M.disk result.0) (S.input source.old) (S.input source.new) result.1 }
+    ensures session { RanSession (M.disk machine) (M.disk result.0) (S.input source.old) (S.input source.new) (C.ticks clock.old) (C.ticks clock.new) result.1 }
     ensures later { IsLater (M.disk machine) (M.disk result.0) }
-    ensures disk_fault { result.1 ≡ 18 → Rose (M.disk machine).faults (M.disk result.0).faults }
-    ensures read_fault { result.1 ≡ 19 → Rose (S.input source.old).faults (S.input source.new).faults }
-    ensures send_fault { result.1 ≡ 20 → Rose (M.disk machine).send_faults (M.disk result.0).send_faults }
-    ensures clock_fault { result.1 ≡ 21 → Rose (C.ticks clock.old).faults (C.ticks clock.new).faults }
 {
     let mut machine = machine;
     let (Ok(mut head), Ok(mut text)) = (new_head(alloc), SessionText::new(alloc)) else {
@@ -140,12 +124,7 @@ fn run_session<M: Machine, S: Source, C: Clock>(
     source: &mut S,
     clock: &mut C,
 ) -> u8
-    ensures session { (s : State) → (M.disk machine.old).tells → Standing (M.disk machine.old) s → RanSession (durable s) (M.disk machine.old) (M.disk machine.new) (S.input source.old) (S.input source.new) (C.ticks clock.old) (C.ticks clock.new) result }
-    ensures session_caused { SessionCaused (M.disk machine.old) (M.disk machine.new) (S.input source.old) (S.input source.new) result }
-    ensures disk_fault { result ≡ 18 → Rose (M.disk machine.old).faults (M.disk machine.new).faults }
-    ensures read_fault { result ≡ 19 → Rose (S.input source.old).faults (S.input source.new).faults }
-    ensures send_fault { result ≡ 20 → Rose (M.disk machine.old).send_faults (M.disk machine.new).send_faults }
-    ensures clock_fault { result ≡ 21 → Rose (C.ticks clock.old).faults (C.ticks clock.new).faults }
+    ensures session { RanSession (M.disk machine.old) (M.disk machine.new) (S.input source.old) (S.input source.new) (C.ticks clock.old) (C.ticks clock.new) result }
 {
     let (_, status) = session_on(alloc, machine, source, clock);
     status
@@ -164,8 +143,9 @@ fn is_session_word(word: &[u8]) -> bool
 /// `session` alone, reads requests from the source, answers one after another with framed replies, and ends with 0 where the source was
 /// read to its end. Where a send failed the status is 20.
 ///
-/// What is sent are the model's answers. Wherever the machine stops, the disk stands for the state after the first of the requests, all
-/// those of whose replies a byte was sent among them.
+/// What is sent are the model's answers, and each has its cause, over any machine. Wherever the machine stops, the disk stands for the
+/// state after the first of the requests, all those of whose replies a byte was sent among them; and whatever state a disk stands
+/// for is sound, and each copy kept in it restores the bytes of its image.
 pub fn run<M: Machine, S: Source, C: Clock>(
     alloc: Global,
     words: &[Text],
@@ -173,16 +153,10 @@ pub fn run<M: Machine, S: Source, C: Clock>(
     source: &mut S,
     clock: &mut C,
 ) -> u8
-    ensures ran { names_session words.now ≡ false → (s : State) → (M.disk machine.old).tells → Standing (M.disk machine.old) s → Ran (durable s) words.now (M.disk machine.old) (M.disk machine.new) (S.input source.old) (S.input source.new) (C.ticks clock.old) (C.ticks clock.new) result }
-    ensures session { is_session words.now ≡ true → (s : State) → (M.disk machine.old).tells → Standing (M.disk machine.old) s → RanSession (durable s) (M.disk machine.old) (M.disk machine.new) (S.input source.old) (S.input source.new) (C.ticks clock.old) (C.ticks clock.new) result }
-    ensures bad_session { names_session words.now ≡ true → is_session words.now ≡ false → (M.disk machine.old).tells → Replies (Answer.BadRequest 1) (M.disk machine.old) (M.disk machine.new) result }
-    ensures caused { names_session words.now ≡ false → Caused words.now (M.disk machine.old).tells (M.disk machine.old).seen (S.input source.old) (S.input source.new) (C.ticks clock.old) (C.ticks clock.new) result }
-    ensures session_caused { is_session words.now ≡ true → SessionCaused (M.disk machine.old) (M.disk machine.new) (S.input source.old) (S.input source.new) result }
-    ensures bad_words { names_session words.now ≡ false → MatchResult (timed_request words.now) (λ said. said.request ≢ Request.Load → result ≢ 2) (λ _. (result ≡ 2) ⊎ ((result ≡ 1) ⊎ (result ≡ 20))) }
-    ensures disk_fault { result ≡ 18 → Rose (M.disk machine.old).faults (M.disk machine.new).faults }
-    ensures read_fault { result ≡ 19 → Rose (S.input source.old).faults (S.input source.new).faults }
-    ensures send_fault { result ≡ 20 → Rose (M.disk machine.old).send_faults (M.disk machine.new).send_faults }
-    ensures clock_fault { result ≡ 21 → Rose (C.ticks clock.old).faults (C.ticks clock.new).faults }
+    ensures ran { names_session words.now ≡ false → Ran words.now (M.disk machine.old) (M.disk machine.new) (S.input source.old) (S.input source.new) (C.ticks clock.old) (C.ticks clock.new) result }
+    ensures session { is_session words.now ≡ true → RanSession (M.disk machine.old) (M.disk machine.new) (S.input source.old) (S.input source.new) (C.ticks clock.old) (C.ticks clock.new) result }
+    ensures bad_session { names_session words.now ≡ true → is_session words.now ≡ false → RanBad (M.disk machine.old) (M.disk machine.new) (S.input source.old) (S.input source.new) (C.ticks clock.old) (C.ticks clock.new) result }
+    ensures sound { (c : Image) (s : State) → stands c ≡ Some s → Sound s × KeepsCopies s }
 {
     match words {
         [word] if is_session_word(word.bytes()) => run_session(alloc, machine, source, clock),

@@ -35,6 +35,7 @@ fn main(rt: HostRuntime) -> ExitCode {
     let mut arguments = match env::args(&rt) {
         Ok(arguments) => arguments,
         Err(fault) if fault.kind() == ErrorKind::OutOfMemory => {
+            let _ = eprintln!(rt; "bpdesk: no memory for the words");
             return ExitCode::from(Answer::OutOfMemory.number());
         }
         Err(_) => {

@@ -2,8 +2,6 @@ use Rattle.std.proofs.Common.{◌≡◌, ◌≤◌, false, vec_capacity}
 use Rattle.vault_disk.specs.Disk.{IsLater}
 use Rattle.vault_disk.specs.Input.{IsSameInput}
 use Rattle.vault_disk.specs.Ticks.{IsSameClock}
-use Rattle.site_desk.specs.Stands.{Standing}
-use Rattle.bp_cli.proofs.Ending.{HasRead}
 use Rattle.bp_cli.proofs.Serving.{Served}
 use Rattle.bp_cli.proofs.serve.serve.Given as goal
 
@@ -14,7 +12,5 @@ invariant-loop g l = record {
   later : IsLater (g.M.Vault.disk l.fn.desk.vault) (g.M.Vault.disk l.desk.vault);
   input : IsSameInput (g.S.Source.input l.fn.source) (g.S.Source.input l.source);
   clock : IsSameClock (g.C.Clock.ticks l.fn.clock) (g.C.Clock.ticks l.clock);
-  read : HasRead (g.S.Source.input l.fn.source) (g.S.Source.input l.source) l.text;
-  served : (g.M.Vault.disk l.fn.desk.vault).tells → Standing (g.M.Vault.disk l.fn.desk.vault) l.fn.desk.state
-      → Served l.fn.desk.state (g.M.Vault.disk l.fn.desk.vault) (g.M.Vault.disk l.desk.vault) (g.S.Source.input l.fn.source) (g.S.Source.input l.source) l.text (g.C.Clock.ticks l.fn.clock) (g.C.Clock.ticks l.clock) l.desk.state;
+  served : Served l.fn.desk.state (g.M.Vault.disk l.fn.desk.vault) (g.M.Vault.disk l.desk.vault) (g.S.Source.input l.fn.source) (g.S.Source.input l.source) l.text (g.C.Clock.ticks l.fn.clock) (g.C.Clock.ticks l.clock) l.desk.state;
 }
