@@ -1,7 +1,3 @@
-ghost use Rattle.std.specs.Prelude.{◌≡◌, ◌++◌, filter, OnOk};
-ghost use Rattle.std.specs.Str.{bytes_eq};
-ghost use Rattle.nbstl_reports.specs.ImageLines.{image_lines};
-
 use crate::{
     NoMemory, StoredSize, due_lines, image_lines, media_lines, operation_lines, stats_lines,
     unit_lines,
@@ -101,34 +97,14 @@ fn catalogue(rt: &(impl Abort + Alloc<A = Global>)) -> Result<Catalogue, NoMemor
     Ok(catalogue)
 }
 
-// The lines of a whole catalogue, and of one client's images.
-fn list_all(alloc: Global, images: &Catalogue, out: &mut Vec<u8>) -> Result<(), NoMemory>
-    ensures { OnOk result (out.new.items ≡ out.old.items ++ image_lines images.now) }
-{
-    image_lines(alloc, images.iter(), out)
-}
-
-fn list_client(
-    alloc: Global,
-    images: &Catalogue,
-    client: &Name,
-    out: &mut Vec<u8>,
-) -> Result<(), NoMemory>
-    ensures { OnOk result (out.new.items ≡ out.old.items ++ image_lines (filter (λ image. bytes_eq image.id.client client.now) images.now)) }
-{
-    image_lines(
-        alloc,
-        images.iter().filter(|image| image.id.client == *client),
-        out,
-    )
-}
-
 #[test]
 fn images_and_their_parts_are_listed(rt: HostRuntime) -> Result<(), NoMemory> {
     let images = catalogue(&rt)?;
     let mut out = Vec::new(rt.alloc());
-    list_all(rt.alloc(), &images, &mut out)?;
-    list_client(rt.alloc(), &images, &name(&rt, b"b")?, &mut out)?;
+    image_lines(rt.alloc(), images.iter(), &mut out)?;
+    let client = name(&rt, b"b")?;
+    let of_client = images.iter().filter(|image| image.id.client == client);
+    image_lines(rt.alloc(), of_client, &mut out)?;
     media_lines(rt.alloc(), &image(&rt, b"a")?, &[unit(&rt)?], &mut out)?;
     operation_lines(rt.alloc(), images.iter(), &lifecycles(&rt)?, &mut out)?;
     let expected =
