@@ -68,8 +68,10 @@ pub fn answered<V: Vault, S: Source, C: Clock>(
 {
     let timed = match read_timed_request(alloc, words) {
         Ok(timed) => timed,
-        Err(WordFault::Bad { index }) => return (vault, Answer::BadRequest { index }),
-        Err(WordFault::NoMemory) => return (vault, Answer::OutOfMemory),
+        Err(fault) => match fault {
+            WordFault::Bad { index } => return (vault, Answer::BadRequest { index }),
+            WordFault::NoMemory => return (vault, Answer::OutOfMemory),
+        },
     };
     match Desk::open_vault(alloc, vault) {
         Ok(mut desk) => {

@@ -57,8 +57,10 @@ pub fn answer_request<V: Vault, C: Clock>(
 {
     let timed = match read_turn(alloc, asked) {
         Ok(timed) => timed,
-        Err(WordFault::Bad { index }) => return Some(Answer::BadRequest { index }),
-        Err(WordFault::NoMemory) => return None,
+        Err(fault) => match fault {
+            WordFault::Bad { index } => return Some(Answer::BadRequest { index }),
+            WordFault::NoMemory => return None,
+        },
     };
     match moment_at(timed.moment, clock) {
         Ok(moment) => Some(desk.step(alloc, &timed.request, asked.payload.bytes(), moment)),

@@ -31,7 +31,9 @@ behind_both : (a b d : Mode) → mode_before a b ≡ false → mode_before b d �
 behind_both (Frequency l) (Frequency m) (Frequency n) first second = grind (arith, nat_tests)
 behind_both (Calendar x) b (Calendar z) first second = refl
 behind_both (Frequency l) b (Calendar z) first second = refl
-behind_both a b d first second = absurd (cc)
+behind_both (Calendar x) (Calendar y) (Frequency n) first second = absurd (cc)
+behind_both (Calendar x) (Frequency m) (Frequency n) first second = absurd (cc)
+behind_both (Frequency l) (Calendar y) (Frequency n) first second = absurd (cc)
 
 goes : (s t : Schedule) → mode_before t.mode s.mode ≡ true → fore s t ≡ t
 goes s t before = λ j. if before j then t else s

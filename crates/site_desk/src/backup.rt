@@ -16,7 +16,7 @@ use crate::index::Index;
 use crate::lines::RECORD_END;
 use crate::prepare::Ready;
 use crate::replay::take_image;
-use desk_rules::{Change, JobBody, decide};
+use desk_rules::{Change, Decision, JobBody, decide};
 use pool_journal::{Entry, Journal, Staged, WholeImage};
 use site_types::{Answer, NoMemory, Request};
 use std::alloc::{AllocError, Global};
@@ -111,9 +111,13 @@ pub fn prepare_backup(
     let Ok(decision) = decide(alloc, &index.site, &index.catalogue, request, size, moment) else {
         return Err(Answer::OutOfMemory);
     };
-    let (line, body) = match (decision.answer, decision.change) {
-        (Answer::Done { body: line }, Change::SealNow { body }) => (line, body),
-        (refusal, _) => return Err(refusal),
+    let Decision { answer, change } = decision;
+    let Change::SealNow { body } = change else {
+        return Err(answer);
+    };
+    let line = match answer {
+        Answer::Done { body: line } => line,
+        refusal => return Err(refusal),
     };
     match seal(alloc, index, end, whole_of(body, moment), payload) {
         Ok(staged) => Ok(Ready { staged, body: line }),

@@ -11,13 +11,13 @@ use Rattle.bp_cli.specs.Singles.{IsAnswered}
 use Rattle.bp_cli.proofs.Opened.{answered_bad, answered_memory, answered_unopened, answered_opened}
 use Rattle.bp_cli.proofs.execute.answered.Goals as goal
 
-pub returns-in-Err-Bad-clause-acted : goal.returns-in-Err-Bad-clause-acted
-returns-in-Err-Bad-clause-acted g c =
+pub returns-in-Bad-clause-acted : goal.returns-in-Bad-clause-acted
+returns-in-Bad-clause-acted g c =
     let s = state_in (opened (g.V.Vault.disk c.args.vault).seen) in
-    (s, answered_bad c.args.words.now s (g.V.Vault.disk c.args.vault) (g.S.Source.input c.args.source.now) (g.C.Clock.ticks c.args.clock.now) c.in-Err-Bad.index (subst (λ (f : WordFault). IsTimedReading (Err f) (timed_request c.args.words.now)) c.in-Err-Bad.field-0-is c.in-Err-Bad.ensures.read))
+    (s, answered_bad c.args.words.now s (g.V.Vault.disk c.args.vault) (g.S.Source.input c.args.source.now) (g.C.Clock.ticks c.args.clock.now) c.in-Bad.index (subst (λ (f : WordFault). IsTimedReading (Err f) (timed_request c.args.words.now)) c.in-Bad.is c.in-Err.ensures.read))
 
-pub returns-in-Err-NoMemory-clause-acted : goal.returns-in-Err-NoMemory-clause-acted
-returns-in-Err-NoMemory-clause-acted g c =
+pub returns-in-NoMemory-clause-acted : goal.returns-in-NoMemory-clause-acted
+returns-in-NoMemory-clause-acted g c =
     let s = state_in (opened (g.V.Vault.disk c.args.vault).seen) in
     (s, answered_memory c.args.words.now s (g.V.Vault.disk c.args.vault) (g.S.Source.input c.args.source.now) (g.C.Clock.ticks c.args.clock.now))
 
@@ -33,9 +33,9 @@ returns-in-Ok-open_vault-clause-acted g c =
 
 pub returns-clause-acted : goal.returns-clause-acted
 returns-clause-acted g c =
-    let o = c.in-Err.ensures in
+    let o = c.in-Err-open_vault.ensures in
     let s = state_in (opened (g.V.Vault.disk c.args.vault).seen) in (
       s,
-      subst (λ (a : Answer). Acted (IsAnswered c.args.words.now (g.V.Vault.disk c.args.vault) (g.V.Vault.disk c.in-Err.refused.0) (g.S.Source.input c.args.source.now) (g.S.Source.input c.args.source.now) (g.C.Clock.ticks c.args.clock.now) (g.C.Clock.ticks c.args.clock.now)) (state_in (opened (g.V.Vault.disk c.args.vault).seen)) s (g.V.Vault.disk c.args.vault) (g.V.Vault.disk c.in-Err.refused.0) a) (sym c.refusal.ensures)
-          (answered_unopened c.args.words.now c.in-Ok.timed c.in-Ok.ensures.read (g.V.Vault.disk c.args.vault) (g.V.Vault.disk c.in-Err.refused.0) (λ told. g.met.V.Vault.reads_count c.args.vault told) o.stops s (g.S.Source.input c.args.source.now) (g.C.Clock.ticks c.args.clock.now) c.in-Err.refused.1 o.failed o.not_a_vault),
+      subst (λ (a : Answer). Acted (IsAnswered c.args.words.now (g.V.Vault.disk c.args.vault) (g.V.Vault.disk c.in-Err-open_vault.refused.0) (g.S.Source.input c.args.source.now) (g.S.Source.input c.args.source.now) (g.C.Clock.ticks c.args.clock.now) (g.C.Clock.ticks c.args.clock.now)) (state_in (opened (g.V.Vault.disk c.args.vault).seen)) s (g.V.Vault.disk c.args.vault) (g.V.Vault.disk c.in-Err-open_vault.refused.0) a) (sym c.refusal.ensures)
+          (answered_unopened c.args.words.now c.in-Ok.timed c.in-Ok.ensures.read (g.V.Vault.disk c.args.vault) (g.V.Vault.disk c.in-Err-open_vault.refused.0) (λ told. g.met.V.Vault.reads_count c.args.vault told) o.stops s (g.S.Source.input c.args.source.now) (g.C.Clock.ticks c.args.clock.now) c.in-Err-open_vault.refused.1 o.failed o.not_a_vault),
     )

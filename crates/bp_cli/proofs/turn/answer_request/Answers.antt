@@ -8,10 +8,10 @@ use Rattle.bp_cli.proofs.Executing.{acted_step, acted_refused}
 use Rattle.bp_cli.proofs.Turning.{taken_bad, taken_step, taken_clock}
 use Rattle.bp_cli.proofs.turn.answer_request.Goals as goal
 
-pub returns-in-Err-Bad-clause-acted : goal.returns-in-Err-Bad-clause-acted
-returns-in-Err-Bad-clause-acted g c =
-    acted_refused (IsTaken c.args.asked.now.words c.args.asked.now.payload (g.V.Vault.disk c.args.desk.now.vault) (g.V.Vault.disk c.args.desk.now.vault) (g.C.Clock.ticks c.args.clock.now) (g.C.Clock.ticks c.args.clock.now)) c.args.desk.now.state (g.V.Vault.disk c.args.desk.now.vault) (BadRequest c.in-Err-Bad.index)
-    (taken_bad c.args.asked.now.words c.args.asked.now.payload (g.V.Vault.disk c.args.desk.now.vault) (g.V.Vault.disk c.args.desk.now.vault) (g.C.Clock.ticks c.args.clock.now) c.in-Err-Bad.index (subst (λ (f : WordFault). IsTimedReading (Err f) (turn_request c.args.asked.now.words c.args.asked.now.payload)) c.in-Err-Bad.field-0-is c.in-Err-Bad.ensures.read))
+pub returns-in-Bad-clause-acted : goal.returns-in-Bad-clause-acted
+returns-in-Bad-clause-acted g c =
+    acted_refused (IsTaken c.args.asked.now.words c.args.asked.now.payload (g.V.Vault.disk c.args.desk.now.vault) (g.V.Vault.disk c.args.desk.now.vault) (g.C.Clock.ticks c.args.clock.now) (g.C.Clock.ticks c.args.clock.now)) c.args.desk.now.state (g.V.Vault.disk c.args.desk.now.vault) (BadRequest c.in-Bad.index)
+    (taken_bad c.args.asked.now.words c.args.asked.now.payload (g.V.Vault.disk c.args.desk.now.vault) (g.V.Vault.disk c.args.desk.now.vault) (g.C.Clock.ticks c.args.clock.now) c.in-Bad.index (subst (λ (f : WordFault). IsTimedReading (Err f) (turn_request c.args.asked.now.words c.args.asked.now.payload)) c.in-Bad.is c.in-Err.ensures.read))
 
 pub returns-in-Ok-moment_at-clause-acted : goal.returns-in-Ok-moment_at-clause-acted
 returns-in-Ok-moment_at-clause-acted g c =
@@ -24,4 +24,4 @@ returns-in-Ok-moment_at-clause-acted g c =
 pub returns-clause-acted : goal.returns-clause-acted
 returns-clause-acted g c =
     acted_refused (IsTaken c.args.asked.now.words c.args.asked.now.payload (g.V.Vault.disk c.args.desk.now.vault) (g.V.Vault.disk c.args.desk.now.vault) (g.C.Clock.ticks c.args.clock.now) (g.C.Clock.ticks c.moment_at.new.clock)) c.args.desk.now.state (g.V.Vault.disk c.args.desk.now.vault) ClockFault
-    (taken_clock c.args.asked.now.words c.args.asked.now.payload (g.V.Vault.disk c.args.desk.now.vault) (g.V.Vault.disk c.args.desk.now.vault) (g.C.Clock.ticks c.args.clock.now) (g.C.Clock.ticks c.moment_at.new.clock) c.in-Ok.timed c.in-Ok.ensures.read c.in-Err.ensures.untimed)
+    (taken_clock c.args.asked.now.words c.args.asked.now.payload (g.V.Vault.disk c.args.desk.now.vault) (g.V.Vault.disk c.args.desk.now.vault) (g.C.Clock.ticks c.args.clock.now) (g.C.Clock.ticks c.moment_at.new.clock) c.in-Ok.timed c.in-Ok.ensures.read c.in-Err-moment_at.ensures.untimed)

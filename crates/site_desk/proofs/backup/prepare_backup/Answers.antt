@@ -1,21 +1,24 @@
 use Rattle.std.proofs.Common.{◌∙◌, ap, sym, refl}
 use Rattle.pool_journal.specs.declared.entry.WholeImage.{WholeImage}
 use Rattle.site_desk.proofs.IndexLemmas.{remembers_same}
-use Rattle.site_desk.proofs.Sealing.{refusal_plain, refused_here, done_here, length_here, base_here, ready_here}
+use Rattle.site_desk.proofs.Sealing.{refusal_plain, refused_here, length_here, base_here, ready_here}
 use Rattle.site_desk.proofs.backup.prepare_backup.Goals as goal
 
 pub returns-in_default-change : goal.returns-in_default-change
 returns-in_default-change c = record {
   ready = λ records images stored remembers. tt;
-  refused = refused_here c.args.index.now c.args.request.now c.args.payload.now _ c.args.moment c.in-Ok.decision c.requires.backup refl c.in-Ok.ensures.decided c.in_default-change.not-SealNow;
-  plain = refusal_plain c.args.index.now c.args.request.now c.args.payload.now _ c.args.moment c.in-Ok.decision c.requires.backup refl c.in-Ok.ensures.decided c.in_default-change.not-SealNow;
+  refused = refused_here c.args.index.now c.args.request.now c.args.payload.now _ c.args.moment c.in-Ok.decision c.requires.backup refl c.in-Ok.ensures.decided (λ line body is. c.in_default-change.not-SealNow body);
+  plain = refusal_plain c.args.index.now c.args.request.now c.args.payload.now _ c.args.moment c.in-Ok.decision c.requires.backup refl c.in-Ok.ensures.decided (λ line body is. c.in_default-change.not-SealNow body);
   unchanged = record { site = refl; catalogue = refl; extents = λ id. refl };
 }
 
-pub unreachable-requires : goal.unreachable-requires
-unreachable-requires c =
-    let done = done_here c.args.index.now c.args.request.now c.args.payload.now _ c.args.moment c.in-Ok.decision c.requires.backup refl c.in-Ok.ensures.decided c.in-SealNow.body c.in-SealNow.is in
-    c.in_default-answer.not-Done done.0 done.1
+pub returns-in_default-answer : goal.returns-in_default-answer
+returns-in_default-answer c = record {
+  ready = λ records images stored remembers. tt;
+  refused = refused_here c.args.index.now c.args.request.now c.args.payload.now _ c.args.moment c.in-Ok.decision c.requires.backup refl c.in-Ok.ensures.decided (λ line body is sealed. c.in_default-answer.not-Done line is);
+  plain = refusal_plain c.args.index.now c.args.request.now c.args.payload.now _ c.args.moment c.in-Ok.decision c.requires.backup refl c.in-Ok.ensures.decided (λ line body is sealed. c.in_default-answer.not-Done line is);
+  unchanged = record { site = refl; catalogue = refl; extents = λ id. refl };
+}
 
 pub seal-requires-clause-length : goal.seal-requires-clause-length
 seal-requires-clause-length c =
