@@ -22,9 +22,8 @@ made_takes selections reference stream e is at =
     let back = map (item_made reference) (drop (at.0 + 1) part) in
     let x = item_made reference e in
     let parts : made selections reference stream ≡ front ++ x ∷ back = ap (map (item_made reference)) (stands part e at) ∙ map-append (item_made reference) (take at.0 part) (e ∷ drop (at.0 + 1) part) in
-    let rising : rise_behind [] (paths (front ++ x ∷ back)) ≡ true = subst (λ (w : List Item). rise_behind [] (paths w) ≡ true) parts (made_is selections reference stream is).rising in
-    let here : taken_in (path_of x) (front ++ x ∷ back) ≡ taken_of x = taken_here [] front x back rising in
-    subst (λ (p : List ℕ). taken_in p (made selections reference stream) ≡ taken_of x) (path_made reference e) (ap (taken_in (path_of x)) parts ∙ here)
+    let rising : rise_behind [] (paths (front ++ x ∷ back)) ≡ true = rw (← parts) (made_is selections reference stream is).rising in
+    subst (λ (p : List ℕ). taken_in p (made selections reference stream) ≡ taken_of x) (path_made reference e) (rw parts (taken_here [] front x back rising))
 
 -- what some images, made behind a stream, have of an entry: the entry itself, or nothing where it stands in that stream too
 abbrev Found : List (List ℕ) → List Entry → List (List Item) → Entry → Type 0
@@ -44,25 +43,17 @@ behind_finds : (selections : List (List ℕ)) (before b : Backup) (later : List 
     → Found selections before.stream (images_behind selections (Some before.moment) (b ∷ later)) e
 behind_finds selections before b [] streams old e at = took_or_old selections before b e streams.0 old.0 at
 behind_finds selections before b (next ∷ later) streams old e at =
-    let image = made selections (Some before.moment) b.stream in
-    let rest = images_behind selections (Some b.moment) (next ∷ later) in
     elim (behind_finds selections b next later streams.1 old.1 e at) [
-      | inl found ↦ inl (ap (λ (o : Option Entry). option_or o (taken_in e.path image)) found)
-      | inr missing ↦
-          let none : last_taken e.path (image ∷ rest) ≡ taken_in e.path image = ap (λ (o : Option Entry). option_or o (taken_in e.path image)) missing.0 in
-          elim (took_or_old selections before b e streams.0 old.0 missing.1) [
-            | inl took ↦ inl (none ∙ took)
-            | inr kept ↦ inr (none ∙ kept.0, kept.1)
-          ]
+      | inl found ↦ inl (rw found refl)
+      | inr missing ↦ rw missing.0 (took_or_old selections before b e streams.0 old.0 missing.1)
     ]
 
 chain_finds : (selections : List (List ℕ)) (b : Backup) (later : List Backup) → AreBackups selections (b ∷ later) → (e : Entry) → Contains (selected selections (last_stream (b ∷ later))) e → last_taken e.path (chain_of selections (b ∷ later)) ≡ Some e
 chain_finds selections b [] are e at = made_takes selections None b.stream e are.streams.0 at
 chain_finds selections b (next ∷ later) are e at =
-    let image = made selections None b.stream in
     elim (behind_finds selections b next later are.streams.1 are.dated e at) [
-      | inl found ↦ ap (λ (o : Option Entry). option_or o (taken_in e.path image)) found
-      | inr missing ↦ ap (λ (o : Option Entry). option_or o (taken_in e.path image)) missing.0 ∙ made_takes selections None b.stream e are.streams.0 missing.1
+      | inl found ↦ rw found refl
+      | inr missing ↦ rw missing.0 (made_takes selections None b.stream e are.streams.0 missing.1)
     ]
 
 -- the last image is made of the last stream, with some reference
@@ -70,26 +61,17 @@ last_made : (selections : List (List ℕ)) (reference : Option ℕ) (b : Backup)
 last_made selections reference b [] = (reference, refl)
 last_made selections reference b (next ∷ later) = last_made selections (Some b.moment) next later
 
-contains_here : (x : Entry) (xs : List Entry) → Contains (x ∷ xs) x
-contains_here x xs = (0, omega arith, refl)
-
-contains_later : (x : Entry) (xs : List Entry) (e : Entry) → Contains xs e → Contains (x ∷ xs) e
-contains_later x xs e at = (suc at.0, omega (arith, at.1), at.2)
-
 -- where each entry is found, the entries are
 all_found : (reference : Option ℕ) (images : List (List Item)) (entries : List Entry) → ((e : Entry) → Contains entries e → last_taken e.path images ≡ Some e) → filter_map (λ i. last_taken (path_of i) images) (map (item_made reference) entries) ≡ entries
 all_found reference images [] found = refl
 all_found reference images (x ∷ entries) found =
-    let rest = filter_map (λ i. last_taken (path_of i) images) (map (item_made reference) entries) in
-    let here : last_taken (path_of (item_made reference x)) images ≡ Some x = ap (λ (p : List ℕ). last_taken p images) (path_made reference x) ∙ found x (contains_here x entries) in
-    ap (λ (o : Option Entry). cons_option o rest) here ∙ ap (λ (es : List Entry). x ∷ es) (all_found reference images entries (λ e at. found e (contains_later x entries e at)))
+    rw (path_made reference x, found x (0, omega arith, refl)) (ap (λ (es : List Entry). x ∷ es) (all_found reference images entries (λ e at. found e (suc at.0, omega (arith, at.1), at.2))))
 
 pub chain_gives : (selections : List (List ℕ)) (backups : List Backup) → AreBackups selections backups → tree (chain_of selections backups) ≡ selected selections (last_stream backups)
 chain_gives selections [] are = refl
 chain_gives selections (b ∷ later) are =
-    let images = chain_of selections (b ∷ later) in
     let last = last_made selections None b later in
-    ap (λ (is : List Item). filter_map (λ i. last_taken (path_of i) images) is) last.1 ∙ all_found last.0 images (selected selections (last_stream (b ∷ later))) (λ e at. chain_finds selections b later are e at)
+    rw last.1 (all_found last.0 (chain_of selections (b ∷ later)) (selected selections (last_stream (b ∷ later))) (chain_finds selections b later are))
 
 pub law_of_chains : {E : Type 0} (images : List (List Item)) (result : Result (List Entry) E) → IfOk result (λ t. t ≡ tree images) → (selections : List (List ℕ)) (backups : List Backup) → images ≡ chain_of selections backups → AreBackups selections backups → IfOk result (λ t. t ≡ selected selections (last_stream backups))
 law_of_chains images (Ok t) is selections backups chain are = is ∙ ap tree chain ∙ chain_gives selections backups are

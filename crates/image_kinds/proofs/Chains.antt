@@ -25,7 +25,7 @@ last_taken_more path [] image = option_or_nothing (taken_in path image)
     option_or_nothing None = refl
     option_or_nothing (Some x) = refl
 last_taken_more path (first ∷ images) image =
-    ap (λ (o : Option Entry). option_or o (taken_in path first)) (last_taken_more path images image) ∙ option_or_assoc (taken_in path image) (last_taken path images) (taken_in path first)
+    rw (last_taken_more path images image) (option_or_assoc (taken_in path image) (last_taken path images) (taken_in path first))
 
 pub last_image_more : (images : List (List Item)) (image : List Item) → last_image (images ++ image ∷ []) ≡ image
 last_image_more [] image = refl
@@ -41,16 +41,13 @@ behind_each : (earlier : List (List Item)) (front rest : List Item) → rise_beh
     → filter_map (entry_behind earlier) rest ≡ filter_map (λ i. last_taken (path_of i) (earlier ++ (front ++ rest) ∷ [])) rest
 behind_each earlier front [] rising = refl
 behind_each earlier front (x ∷ rest) rising =
-    let whole = front ++ x ∷ rest in
-    let moved : front ++ x ∷ rest ≡ (front ++ x ∷ []) ++ rest = sym (append_assoc front (x ∷ []) rest) in
-    let here : entry_behind earlier x ≡ last_taken (path_of x) (earlier ++ whole ∷ []) =
-    behind_chosen earlier x ∙ ap (λ (o : Option Entry). option_or o (last_taken (path_of x) earlier)) (sym (taken_here [] front x rest rising)) ∙ sym (last_taken_more (path_of x) earlier whole) in
-    let later = behind_each earlier (front ++ x ∷ []) rest (subst (λ (w : List Item). rise_behind [] (paths w) ≡ true) moved rising) in
-    let there : filter_map (entry_behind earlier) rest ≡ filter_map (λ i. last_taken (path_of i) (earlier ++ whole ∷ [])) rest = subst (λ (w : List Item). filter_map (entry_behind earlier) rest ≡ filter_map (λ i. last_taken (path_of i) (earlier ++ w ∷ [])) rest) (sym moved) later in
-    ap (λ (o : Option Entry). cons_option o (filter_map (entry_behind earlier) rest)) here ∙ ap (λ (es : List Entry). cons_option (last_taken (path_of x) (earlier ++ whole ∷ [])) es) there
+    let moved : (front ++ x ∷ []) ++ rest ≡ front ++ x ∷ rest = append_assoc front (x ∷ []) rest in
+    let here : entry_behind earlier x ≡ last_taken (path_of x) (earlier ++ (front ++ x ∷ rest) ∷ []) = rw (last_taken_more (path_of x) earlier (front ++ x ∷ rest), taken_here [] front x rest rising) (behind_chosen earlier x) in
+    let there = simp moved at (behind_each earlier (front ++ x ∷ []) rest (rw moved rising)) in
+    rw (here, there) refl
 
 pub tree_behind : (earlier : List (List Item)) (last : List Item) → rise_behind [] (paths last) ≡ true → filter_map (entry_behind earlier) last ≡ tree (earlier ++ last ∷ [])
-tree_behind earlier last rising = behind_each earlier [] last rising ∙ ap (λ (w : List Item). filter_map (λ i. last_taken (path_of i) (earlier ++ last ∷ [])) w) (sym (last_image_more earlier last))
+tree_behind earlier last rising = rw (last_image_more earlier last) (behind_each earlier [] last rising)
 
 -- ---- what is found of a path has that path
 
@@ -58,10 +55,8 @@ taken_path : (path : List ℕ) (items : List Item) (e : Entry) → taken_in path
 taken_path path [] e is = absurd (none-some e is)
 taken_path path (Taken x ∷ items) e is =
     elim (cases_Bool (bytes_eq x.path path)) [
-      | inl same ↦
-          let one : x ≡ e = same_Some x e (sym (cond-true (bytes_eq x.path path) (Some x) (taken_in path items) same) ∙ is) in
-          ap (λ (z : Entry). z.path) (sym one) ∙ (bytes_eq-Decides x.path path).0 same
-      | inr other ↦ taken_path path items e (sym (cond-false (bytes_eq x.path path) (Some x) (taken_in path items) other) ∙ is)
+      | inl same ↦ rw (← same_Some x e (rw same at is)) ((bytes_eq-Decides x.path path).0 same)
+      | inr other ↦ taken_path path items e (rw other at is)
     ]
 taken_path path (Kept kept ∷ items) e is = taken_path path items e is
 
@@ -96,8 +91,7 @@ behind_rises earlier last (x ∷ items) rising =
 
 pub ends_in : {A : Type 0} (xs : List A) (x : A) → 0 < length xs → x ≡ get_or xs (length xs - 1) x → xs ≡ take (length xs - 1) xs ++ x ∷ []
 ends_in {A} xs x some is =
-    let more : take (length xs - 1 + 1) xs ≡ take (length xs - 1) xs ++ get_or xs (length xs - 1) x ∷ [] = take_more xs (length xs - 1) x (omega arith) in
-    sym (take_all (length xs - 1 + 1) xs (omega arith)) ∙ more ∙ ap (λ (y : A). take (length xs - 1) xs ++ y ∷ []) (sym is)
+    sym (take_all (length xs - 1 + 1) xs (omega arith)) ∙ take_more xs (length xs - 1) x (omega arith) ∙ ap (λ (y : A). take (length xs - 1) xs ++ y ∷ []) (sym is)
 
 -- the last of some images took the path, or else the others have it
 pub last_step : (path : List ℕ) (rest : List (List Item)) (image : List Item) (o : Option Entry) → 0 < length rest → image ≡ get_or rest (length rest - 1) image → taken_in path image ≡ o → last_taken path rest ≡ option_or o (last_taken path (take (length rest - 1) rest))
@@ -106,8 +100,7 @@ last_step path rest image o some is took =
 
 pub merged_more : (h : Item → Option Entry) (items : List Item) (k : ℕ) (x : Item) (o : Option Entry) (entries : List Entry) → k < length items → x ≡ get_or items k x → h x ≡ o → entries ≡ filter_map h (take k items) → entries ++ cons_option o [] ≡ filter_map h (take (k + 1) items)
 merged_more h items k x o entries lt is gives so_far =
-    ap (λ (es : List Entry). es ++ cons_option o []) so_far ∙ ap (λ (g : Option Entry). filter_map h (take k items) ++ cons_option g []) (sym gives) ∙ sym (filter_map-append h (take k items) (x ∷ []))
-    ∙ ap (filter_map h) (ap (λ (y : Item). take k items ++ y ∷ []) is ∙ sym (take_more items k x lt))
+    rw (take_more items k x lt, ← is, filter_map-append h (take k items) (x ∷ []), gives, so_far) refl
 
 pub entries_more : (entries : List Entry) (e : Entry) → AllByRecursion (IsItem format.Stream) (map Taken entries) → IsEntry e → AllByRecursion (IsItem format.Stream) (map Taken (entries ++ e ∷ []))
 entries_more [] e each fits = (fits, tt)
@@ -115,11 +108,9 @@ entries_more (x ∷ entries) e each fits = (each.0, entries_more entries e each.
 
 pub merged_is : (earlier : List (List Item)) (last : List Item) (k : ℕ) (entries : List Entry) → IsImage last → length last ≤ k → entries ≡ filter_map (entry_behind earlier) (take k last) → AllByRecursion (IsItem format.Stream) (map Taken entries) → IsStream entries
 merged_is earlier last k entries image le found each =
-    let whole : entries ≡ filter_map (entry_behind earlier) last = found ∙ ap (filter_map (entry_behind earlier)) (take_all k last le) in
-    record { rising = subst (Rises []) (sym whole) (behind_rises earlier [] last image.rising); each = each }
+    record { rising = rw (found, take_all k last le) (behind_rises earlier [] last image.rising); each = each }
 
 pub merged_all : (images : List (List Item)) (last : List Item) (k : ℕ) (entries : List Entry) → 0 < length images → last ≡ get_or images (length images - 1) last → IsImage last → length last ≤ k
     → entries ≡ filter_map (entry_behind (take (length images - 1) images)) (take k last) → entries ≡ tree images
 merged_all images last k entries some is image le found =
-    let earlier = take (length images - 1) images in
-    found ∙ ap (filter_map (entry_behind earlier)) (take_all k last le) ∙ tree_behind earlier last image.rising ∙ ap tree (sym (ends_in images last some is))
+    rw (found, take_all k last le) (tree_behind (take (length images - 1) images) last image.rising ∙ ap tree (sym (ends_in images last some is)))

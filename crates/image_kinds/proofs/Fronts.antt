@@ -16,26 +16,15 @@ pub data Halts (f : Format) (last rest : List ℕ) : Type 0 where
   ended : rest ≡ 0 ∷ [] → Halts f last rest
   broken : (left : ℕ) → item_at f last rest ≡ Err left → Halts f last rest
 
-abbrev item_read : Option Item → List ℕ → Read (Option Item)
-item_read i rest = Ok (i, rest)
-
-abbrev error : ℕ → Read (Option Item)
-error left = Err left
-
-same_pair : (p q : Option Item × List ℕ) → item_read p.0 p.1 ≡ item_read q.0 q.1 → p ≡ q
-same_pair p q e = cc
-
-read_no_error : (i : Option Item) (rest : List ℕ) (left : ℕ) → item_read i rest ≡ error left → ⊥
-read_no_error i rest left e = absurd cc
-
-same_left : (n m : ℕ) → error n ≡ error m → n ≡ m
-same_left n m e = cc
+one_read : (o : Read (Option Item)) (p q : Option Item × List ℕ) → o ≡ Ok p → o ≡ Ok q → (p.0 ≡ q.0) × (p.1 ≡ q.1)
+one_read o p q one other =
+    let same : p ≡ q = cc in
+    (ap (λ (r : Option Item × List ℕ). r.0) same, ap (λ (r : Option Item × List ℕ). r.1) same)
 
 halts : (f : Format) (last rest : List ℕ) (i : Item) (more : List ℕ) → Halts f last rest → item_at f last rest ≡ Ok (Some i, more) → ⊥
 halts f last rest i more (ended is) read =
-    let none : item_at f last rest ≡ Ok (None, []) = ap (item_at f last) is in
-    none-some i (ap (λ (p : Option Item × List ℕ). p.0) (same_pair (None, []) (Some i, more) (sym none ∙ read)))
-halts f last rest i more (broken left is) read = read_no_error (Some i) more left (sym read ∙ is)
+    none-some i (one_read (item_at f last rest) (None, []) (Some i, more) (ap (item_at f last) is) read).0
+halts f last rest i more (broken left is) read = absurd cc
 
 abbrev pub fronts : List Item → List ℕ
 fronts items = flat_map spelled_item items
@@ -43,11 +32,6 @@ fronts items = flat_map spelled_item items
 first_read : (f : Format) (last : List ℕ) (x : Item) (xs : List Item) (rest bytes : List ℕ) → rise_behind last (map path_of (x ∷ xs)) ≡ true → AllByRecursion (IsItem f) (x ∷ xs) → bytes ≡ fronts (x ∷ xs) ++ rest → item_at f last bytes ≡ Ok (Some x, fronts xs ++ rest)
 first_read f last x xs rest bytes rising each is =
     ap (item_at f last) (is ∙ append_assoc (spelled_item x) (fronts xs) rest) ∙ item_again f last x (fronts xs ++ rest) (and_parts (follows last (path_of x)) (rise_behind (path_of x) (map path_of xs)) rising).0 each.0
-
-same_item : (x y : Item) (r s : List ℕ) → item_read (Some x) r ≡ item_read (Some y) s → (x ≡ y) × (r ≡ s)
-same_item x y r s e =
-    let pairs = same_pair (Some x, r) (Some y, s) e in
-    (same_Some x y (ap (λ (p : Option Item × List ℕ). p.0) pairs), ap (λ (p : Option Item × List ℕ). p.1) pairs)
 
 pub record OneFront (xs ys : List Item) (r s : List ℕ) : Type 0 where
   pub items : xs ≡ ys
@@ -62,11 +46,11 @@ one_front f last (x ∷ xs) (y ∷ ys) r s rx ex ry ey hx hy e =
     let bytes = fronts (x ∷ xs) ++ r in
     let one : item_at f last bytes ≡ Ok (Some x, fronts xs ++ r) = first_read f last x xs r bytes rx ex refl in
     let other : item_at f last bytes ≡ Ok (Some y, fronts ys ++ s) = first_read f last y ys s bytes ry ey e in
-    let same = same_item x y (fronts xs ++ r) (fronts ys ++ s) (sym one ∙ other) in
-    let risen : rise_behind (path_of x) (map path_of ys) ≡ true = subst (λ (i : Item). rise_behind (path_of i) (map path_of ys) ≡ true) (sym same.0) (and_parts (follows last (path_of y)) (rise_behind (path_of y) (map path_of ys)) ry).1 in
-    let halted : Halts f (last_behind (path_of x) ys) s = subst (λ (i : Item). Halts f (last_behind (path_of i) ys) s) (sym same.0) hy in
-    let more = one_front f (path_of x) xs ys r s (and_parts (follows last (path_of x)) (rise_behind (path_of x) (map path_of xs)) rx).1 ex.1 risen ey.1 hx halted same.1 in
-    record { items = ap (λ (i : Item). i ∷ xs) same.0 ∙ ap (λ (is : List Item). y ∷ is) more.items; rest = more.rest }
+    let both = one_read (item_at f last bytes) (Some x, fronts xs ++ r) (Some y, fronts ys ++ s) one other in
+    let same : x ≡ y = same_Some x y both.0 in
+    let risen = (and_parts (follows last (path_of y)) (rise_behind (path_of y) (map path_of ys)) ry).1 in
+    let more = one_front f (path_of x) xs ys r s (and_parts (follows last (path_of x)) (rise_behind (path_of x) (map path_of xs)) rx).1 ex.1 (rw same risen) ey.1 hx (rw same hy) both.1 in
+    record { items = rw (same, more.items) refl; rest = more.rest }
 
 starts_so : (f : Format) (more : List ℕ) → starts_with nat_eq (letters_of f ++ more) (letters_of f) ≡ true
 starts_so format.Stream more = refl
@@ -86,7 +70,7 @@ spelled_is_good f bytes offset xs (behind_items ys rest left hy parts breaks is)
     let stopped = item_stops f (last_path ys) rest left breaks in
     let same = one_front f [] ys xs rest (0 ∷ []) hy.rising hy.each hx.rising hx.each (broken left stopped) (ended refl) (append_cancel_left (letters_of f) (fronts ys ++ rest) (fronts xs ++ 0 ∷ []) (sym parts ∙ e)) in
     let none : item_at f (last_path ys) rest ≡ Ok (None, []) = ap (item_at f (last_path ys)) same.rest in
-    read_no_error None [] left (sym none ∙ stopped)
+    absurd cc
 
 pub one_offset : (f : Format) (bytes : List ℕ) (n m : ℕ) → IsBad f bytes n → IsBad f bytes m → n ≡ m
 one_offset f bytes n m (in_letters wrong is) (in_letters also there) = is ∙ sym there
@@ -96,9 +80,9 @@ one_offset f bytes n m (behind_items xs r left hx parts breaks is) (behind_items
     let one = item_stops f (last_path xs) r left breaks in
     let other = item_stops f (last_path ys) s right stops in
     let same = one_front f [] xs ys r s hx.rising hx.each hy.rising hy.each (broken left one) (broken right other) (append_cancel_left (letters_of f) (fronts xs ++ r) (fronts ys ++ s) (sym parts ∙ there)) in
-    let here : item_at f (last_path xs) r ≡ Err right = ap (λ (is : List Item). item_at f (last_path is) r) same.items ∙ ap (item_at f (last_path ys)) same.rest ∙ other in
-    let lefts : left ≡ right = same_left left right (sym one ∙ here) in
-    omega (arith, lefts, is, at)
+    let here : item_at f (last_path xs) r ≡ Err right = rw (same.items, same.rest) other in
+    let lefts : left ≡ right = cc in
+    omega (arith, is, at)
 
 -- ---- reading item by item
 
@@ -121,9 +105,8 @@ each_more f (y ∷ ys) x each fits = (each.0, each_more f ys x each.1 fits)
 pub has_more : (f : Format) (bytes : List ℕ) (items : List Item) (rest : List ℕ) (i : Item) (after : List ℕ) → HasRead f bytes items rest → item_at f (last_path items) rest ≡ Ok (Some i, after) → HasRead f bytes (items ++ i ∷ []) after
 has_more f bytes items rest i after has read =
     let took = MatchResult-at_ok (TakesItem f (last_path items) rest) (Breaks f (last_path items) rest) (Some i, after) read (item_law f (last_path items) rest has.rest_fits) in
-    let moved : fronts items ++ (spelled_item i ++ after) ≡ fronts (items ++ i ∷ []) ++ after = sym (append_assoc (fronts items) (spelled_item i) after) ∙ ap (λ (w : List ℕ). w ++ after) (flat_map_more spelled_item [] items i) in
     record {
-      parts = has.parts ∙ ap (λ (w : List ℕ). letters_of f ++ (fronts items ++ w)) took.0.parts ∙ ap (λ (w : List ℕ). letters_of f ++ w) moved;
+      parts = rw (← flat_map_more spelled_item [] items i, append_assoc (fronts items) (spelled_item i) after, ← took.0.parts) has.parts;
       items_are = record { rising = rise_more [] items i has.items_are.rising took.1; each = each_more f items i has.items_are.each took.2 };
       rest_fits = took.0.rest_fits;
     }
@@ -132,11 +115,8 @@ has_more f bytes items rest i after has read =
 pub falls : (f : Format) (last rest : List ℕ) (i : Item) (after : List ℕ) → IsBytes rest → item_at f last rest ≡ Ok (Some i, after) → length after < length rest
 falls f last rest i after fits read =
     let took = MatchResult-at_ok (TakesItem f last rest) (Breaks f last rest) (Some i, after) read (item_law f last rest fits) in
-    shorter rest i after took.0.parts
-  where
-    shorter : (rest : List ℕ) (i : Item) (after : List ℕ) → rest ≡ spelled_item i ++ after → length after < length rest
-    shorter rest (Taken e) after parts = omega (arith, ap (λ (w : List ℕ). length w) parts, length-append (spelled_item (Taken e)) after)
-    shorter rest (Kept path) after parts = omega (arith, ap (λ (w : List ℕ). length w) parts, length-append (spelled_item (Kept path)) after)
+    let tagged : 0 < length (spelled_item i) = elim i as (λ j. 0 < length (spelled_item j)) [ Taken e ↦ omega arith | Kept path ↦ omega arith ] in
+    omega (arith, ap (λ (w : List ℕ). length w) took.0.parts, length-append (spelled_item i) after)
 
 -- ---- a field that breaks its rule
 

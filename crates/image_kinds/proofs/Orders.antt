@@ -24,11 +24,7 @@ rise_sooner a b (p ∷ paths) before rising =
 
 pub path_made : (reference : Option ℕ) (e : Entry) → path_of (item_made reference e) ≡ e.path
 path_made None e = refl
-path_made (Some r) e = path_chosen (nat_le r e.time) e
-  where
-    path_chosen : (b : Bool) (e : Entry) → path_of (cond b (Taken e) (Kept e.path)) ≡ e.path
-    path_chosen true e = refl
-    path_chosen false e = refl
+path_made (Some r) e = cond_both (nat_le r e.time) (Taken e) (Kept e.path) (λ i. path_of i ≡ e.path) (λ taken. refl) (λ kept. refl)
 
 -- ---- the selected part of a stream, and the image that is made of it
 
@@ -48,7 +44,7 @@ filter_rises p last (e ∷ entries) rising =
 
 pub made_paths : (reference : Option ℕ) (entries : List Entry) → map path_of (map (item_made reference) entries) ≡ map path_of (map Taken entries)
 made_paths reference [] = refl
-made_paths reference (e ∷ entries) = ap (λ (p : List ℕ). p ∷ map path_of (map (item_made reference) entries)) (path_made reference e) ∙ ap (λ (ps : List (List ℕ)). e.path ∷ ps) (made_paths reference entries)
+made_paths reference (e ∷ entries) = rw (path_made reference e, made_paths reference entries) refl
 
 item_fits : (reference : Option ℕ) (e : Entry) → IsEntry e → IsItem format.Image (item_made reference e)
 item_fits None e fits = fits
@@ -57,9 +53,8 @@ item_fits (Some r) e fits = cond_both (nat_le r e.time) (Taken e) (Kept e.path) 
 pub filter_each : (p : Entry → Bool) (entries : List Entry) → AllByRecursion (IsItem format.Stream) (map Taken entries) → AllByRecursion (IsItem format.Stream) (map Taken (filter p entries))
 filter_each p [] each = tt
 filter_each p (e ∷ entries) each =
-    cond_both (p e) (e ∷ filter p entries) (filter p entries) (λ (es : List Entry). AllByRecursion (IsItem format.Stream) (map Taken es))
-    (λ picked. (each.0, filter_each p entries each.1))
-    (λ left. filter_each p entries each.1)
+    let rest = filter_each p entries each.1 in
+    cond_both (p e) (e ∷ filter p entries) (filter p entries) (λ (es : List Entry). AllByRecursion (IsItem format.Stream) (map Taken es)) (λ picked. (each.0, rest)) (λ left. rest)
 
 each_made : (reference : Option ℕ) (entries : List Entry) → AllByRecursion (IsItem format.Stream) (map Taken entries) → AllByRecursion (IsItem format.Image) (map (item_made reference) entries)
 each_made reference [] each = tt

@@ -1,10 +1,10 @@
 -- What is read of a field is what is spelled at the front, and where nothing is read the field breaks its rule.
-use Rattle.image_kinds.proofs.Common.{◌≡◌, ℕ, suc, ◌+◌, ◌^◌, ◌<◌, ◌≤◌, Bool, true, false, cond, ltb, eqb, List, [], ◌∷◌, ◌++◌, length, get_or, take, drop, Option, Some, None, Result, Ok, Err, refl, sym, ap, subst, ◌∙◌, append_assoc, arith, inl, inr, MatchResult, ◌&&◌, Width, w16, w64, byte_len, from_be_bytes, to_be_bytes, cases_lt, ltb-false, ltb-true, le-ltb, eqb-true, and_parts, or_from, Entry, Item, Taken, Kept, Format}
+use Rattle.image_kinds.proofs.Common.{◌≡◌, ℕ, suc, ◌+◌, ◌^◌, ◌<◌, ◌≤◌, Bool, true, false, cond, ltb, eqb, List, [], ◌∷◌, ◌++◌, length, get_or, take, drop, Option, Some, None, Result, Ok, Err, refl, sym, ap, subst, ◌∙◌, append_assoc, arith, inl, inr, MatchResult, ◌&&◌, Width, w16, w64, byte_len, from_be_bytes, to_be_bytes, cases_lt, ltb-false, ltb-true, le-ltb, eqb-true, and_parts, or_from, cond_both, Entry, Item, Taken, Kept, Format}
 use Rattle.std.proofs.lemmas.List.{take_at, drop_at, take-append-drop, length-append, length-take, get_or-drop, get_or-take, get_or_past}
 use Rattle.std.proofs.lemmas.Nat.{be_bytes_2, be_bytes_8, from_be_bytes-to_be_bytes_2, from_be_bytes-to_be_bytes_8}
 use Rattle.image_kinds.specs.Paths.{is_path_length, follows}
 use Rattle.image_kinds.specs.Streams.{path_of, spelled_path, spelled_content, spelled_item, IsEntry, IsItem, keeps, names_path, PathBreaks, path_length_ends, wrong_path_length, path_ends, wrong_path, FileEnds, time_ends, content_length_ends, content_ends, Breaks, no_tag, wrong_tag, behind_end, in_path, in_file}
-use Rattle.image_kinds.specs.Fields.{◌>>=◌, whole, number_at, text_at, path_length_at, path_bytes_at, path_at, content_at, entry_at, end_at, taken_at, kept_at, tagged_at, item_at}
+use Rattle.image_kinds.specs.Fields.{Read, ◌>>=◌, whole, number_at, text_at, path_length_at, path_bytes_at, path_at, content_at, entry_at, end_at, taken_at, kept_at, tagged_at, item_at}
 use Rattle.std.proofs.lemmas.Result.{MatchResult-weaker}
 
 abbrev pub IsBytes : List ℕ → Type 0
@@ -34,19 +34,10 @@ Takes-then a x b y c p q = record { parts = p.parts ∙ ap (λ (t : List ℕ). x
 pub Takes-behind : (tag : ℕ) (bytes text rest : List ℕ) → Takes bytes text rest → Takes (tag ∷ bytes) (tag ∷ text) rest
 Takes-behind tag bytes text rest t = record { parts = ap (λ (w : List ℕ). tag ∷ w) t.parts; rest_fits = t.rest_fits }
 
--- one reader after another, and a choice of two
+-- one reader after another
 bind_law : {A B : Type 0} (r : Result A ℕ) (f : A → Result B ℕ) (P : A → Type 0) (E : ℕ → Type 0) (Q : B → Type 0) (F : ℕ → Type 0) → MatchResult r P E → ((x : A) → P x → MatchResult (f x) Q F) → ((left : ℕ) → E left → F left) → MatchResult (r >>= f) Q F
 bind_law (Ok x) f P E Q F p next fails = next x p
 bind_law (Err left) f P E Q F p next fails = fails left p
-
-pub choose_law : {A : Type 0} (b : Bool) (x y : Result A ℕ) (P : A → Type 0) (E : ℕ → Type 0) → (b ≡ true → MatchResult x P E) → (b ≡ false → MatchResult y P E) → MatchResult (cond b x y) P E
-choose_law true x y P E passes fails = passes refl
-choose_law false x y P E passes fails = fails refl
-
--- a field that is whole, or within which the bytes end
-field_law : {A : Type 0} (b : Bool) (x : A × List ℕ) (P : A × List ℕ → Type 0) (E : ℕ → Type 0) → (b ≡ true → E 0) → (b ≡ false → P x) → MatchResult (whole (cond b None (Some x))) P E
-field_law true x P E ends reads = ends refl
-field_law false x P E ends reads = reads refl
 
 -- ---- numbers and texts
 
@@ -80,7 +71,7 @@ EndsWithin count bytes left = (length bytes < count) × (left ≡ 0)
 
 number_law : (w : Width) (limit : ℕ) (wide : IsWide w limit) (bytes : List ℕ) → IsBytes bytes → MatchResult (number_at w bytes) (TakesNumber w limit bytes) (EndsWithin (byte_len w) bytes)
 number_law w limit wide bytes fits =
-    field_law (ltb (length bytes) (byte_len w)) (from_be_bytes w (take (byte_len w) bytes), drop (byte_len w) bytes) (TakesNumber w limit bytes) (EndsWithin (byte_len w) bytes)
+    cond_both (ltb (length bytes) (byte_len w)) None (Some (from_be_bytes w (take (byte_len w) bytes), drop (byte_len w) bytes)) (λ o. MatchResult (whole o) (TakesNumber w limit bytes) (EndsWithin (byte_len w) bytes))
     (λ short. (ltb-true (length bytes) (byte_len w) short, refl))
     (λ enough.
     let long : byte_len w ≤ length bytes = ltb-false _ _ enough in
@@ -98,7 +89,7 @@ TakesText count bytes t = Takes bytes t.0 t.1 × (length t.0 ≡ count)
 
 text_law : (count : ℕ) (bytes : List ℕ) → IsBytes bytes → MatchResult (text_at count bytes) (TakesText count bytes) (EndsWithin count bytes)
 text_law count bytes fits =
-    field_law (ltb (length bytes) count) (take count bytes, drop count bytes) (TakesText count bytes) (EndsWithin count bytes)
+    cond_both (ltb (length bytes) count) None (Some (take count bytes, drop count bytes)) (λ o. MatchResult (whole o) (TakesText count bytes) (EndsWithin count bytes))
     (λ short. (ltb-true (length bytes) count short, refl))
     (λ enough.
     let long : count ≤ length bytes = ltb-false _ _ enough in
@@ -117,7 +108,7 @@ TakesLength bytes n = Takes bytes (to_be_bytes w16 n.0) n.1 × (is_path_length n
 path_length_law : (last bytes : List ℕ) → IsBytes bytes → MatchResult (path_length_at bytes) (TakesLength bytes) (PathBreaks last bytes)
 path_length_law last bytes fits =
     bind_law (number_at w16 bytes) (λ n. cond (is_path_length n.0) (Ok n) (Err (length bytes))) (TakesNumber w16 (2 ^ 16) bytes) (EndsWithin 2 bytes) (TakesLength bytes) (PathBreaks last bytes) (number_law w16 (2 ^ 16) wide16 bytes fits)
-    (λ n took. choose_law (is_path_length n.0) (Ok n) (Err (length bytes)) (TakesLength bytes) (PathBreaks last bytes) (λ passes. (took.0, passes)) (λ fails. wrong_path_length n.0 n.1 took.1 took.0.parts fails refl))
+    (λ n took. cond_both (is_path_length n.0) (Ok n) (Err (length bytes)) (λ r. MatchResult r (TakesLength bytes) (PathBreaks last bytes)) (λ passes. (took.0, passes)) (λ fails. wrong_path_length n.0 n.1 took.1 took.0.parts fails refl))
     (λ left ends. path_length_ends ends.0 ends.1)
 
 abbrev pub TakesPath : List ℕ → List ℕ → List ℕ × List ℕ → Type 0
@@ -128,15 +119,13 @@ path_bytes_law last bytes n took =
     bind_law (text_at n.0 n.1) (λ p. cond (follows last p.0) (Ok p) (Err (length n.1))) (TakesText n.0 n.1) (EndsWithin n.0 n.1) (TakesPath last bytes) (PathBreaks last bytes) (text_law n.0 n.1 took.0.rest_fits)
     (λ p text.
     let whole : Takes bytes (spelled_path p.0) p.1 = subst (λ (k : ℕ). Takes bytes (to_be_bytes w16 k ++ p.0) p.1) (sym text.1) (Takes-then bytes (to_be_bytes w16 n.0) n.1 p.0 p.1 took.0 text.0) in
-    choose_law (follows last p.0) (Ok p) (Err (length n.1)) (TakesPath last bytes) (PathBreaks last bytes) (λ passes. (whole, passes))
+    cond_both (follows last p.0) (Ok p) (Err (length n.1)) (λ r. MatchResult r (TakesPath last bytes) (PathBreaks last bytes)) (λ passes. (whole, passes))
     (λ fails. wrong_path p.0 p.1 (ap is_path_length text.1 ∙ took.1) whole.parts fails (ap (λ (w : List ℕ). length w) text.0.parts)))
     (λ left ends. path_ends n.0 n.1 took.1 took.0.parts ends.0 ends.1)
 
 pub path_law : (last bytes : List ℕ) → IsBytes bytes → MatchResult (path_at last bytes) (TakesPath last bytes) (PathBreaks last bytes)
 path_law last bytes fits =
-    bind_law (path_length_at bytes) (λ n. path_bytes_at last n.0 n.1) (TakesLength bytes) (PathBreaks last bytes) (TakesPath last bytes) (PathBreaks last bytes) (path_length_law last bytes fits)
-    (λ n took. path_bytes_law last bytes n took)
-    (λ left breaks. breaks)
+    bind_law (path_length_at bytes) (λ n. path_bytes_at last n.0 n.1) (TakesLength bytes) (PathBreaks last bytes) (TakesPath last bytes) (PathBreaks last bytes) (path_length_law last bytes fits) (path_bytes_law last bytes) (λ left breaks. breaks)
 
 -- ---- the time and the content of an entry
 
@@ -155,8 +144,7 @@ content_text_law bytes n took =
 
 content_law : (bytes : List ℕ) → IsBytes bytes → MatchResult (content_at bytes) (TakesContent bytes) (ContentEnds bytes)
 content_law bytes fits =
-    bind_law (number_at w64 bytes) (λ n. text_at n.0 n.1) (TakesNumber w64 (2 ^ 64) bytes) (EndsWithin 8 bytes) (TakesContent bytes) (ContentEnds bytes) (number_law w64 (2 ^ 64) wide64 bytes fits)
-    (λ n took. content_text_law bytes n took)
+    bind_law (number_at w64 bytes) (λ n. text_at n.0 n.1) (TakesNumber w64 (2 ^ 64) bytes) (EndsWithin 8 bytes) (TakesContent bytes) (ContentEnds bytes) (number_law w64 (2 ^ 64) wide64 bytes fits) (content_text_law bytes)
     (λ left ends. (λ time small. content_length_ends time bytes small refl ends.0, ends.1))
 
 -- ---- entries
@@ -164,30 +152,25 @@ content_law bytes fits =
 abbrev pub TakesEntry : List ℕ → List ℕ → Entry × List ℕ → Type 0
 TakesEntry last bytes e = Takes bytes (spelled_path e.0.path ++ (to_be_bytes w64 e.0.time ++ spelled_content e.0.content)) e.1 × (follows last e.0.path ≡ true) × IsEntry e.0
 
-pub data EntryBreaks (last bytes : List ℕ) (left : ℕ) : Type 0 where
-  entry_path_breaks : PathBreaks last bytes left → EntryBreaks last bytes left
-  entry_file_ends : (path more : List ℕ) → bytes ≡ spelled_path path ++ more → follows last path ≡ true → FileEnds more → left ≡ 0 → EntryBreaks last bytes left
-
-abbrev made : List ℕ → ℕ → List ℕ → Entry
+abbrev pub made : List ℕ → ℕ → List ℕ → Entry
 made path time content = record { path = path; time = time; content = content }
 
-entry_content_law : (last bytes : List ℕ) (p : List ℕ × List ℕ) → TakesPath last bytes p → (t : ℕ × List ℕ) → TakesNumber w64 (2 ^ 64) p.1 t → MatchResult (content_at t.1 >>= λ c. Ok (made p.0 t.0 c.0, c.1)) (TakesEntry last bytes) (EntryBreaks last bytes)
-entry_content_law last bytes p path t time =
-    bind_law (content_at t.1) (λ c. Ok (made p.0 t.0 c.0, c.1)) (TakesContent t.1) (ContentEnds t.1) (TakesEntry last bytes) (EntryBreaks last bytes) (content_law t.1 time.0.rest_fits)
+entry_content_law : (f : Format) (last bytes : List ℕ) (p : List ℕ × List ℕ) → TakesPath last bytes p → (t : ℕ × List ℕ) → TakesNumber w64 (2 ^ 64) p.1 t → MatchResult (content_at t.1 >>= λ c. Ok (made p.0 t.0 c.0, c.1)) (TakesEntry last bytes) (Breaks f last (1 ∷ bytes))
+entry_content_law f last bytes p path t time =
+    bind_law (content_at t.1) (λ c. Ok (made p.0 t.0 c.0, c.1)) (TakesContent t.1) (ContentEnds t.1) (TakesEntry last bytes) (Breaks f last (1 ∷ bytes)) (content_law t.1 time.0.rest_fits)
     (λ c content. (Takes-then bytes (spelled_path p.0) p.1 (to_be_bytes w64 t.0 ++ spelled_content c.0) c.1 path.0 (Takes-then p.1 (to_be_bytes w64 t.0) t.1 (spelled_content c.0) c.1 time.0 content.0), path.1, (time.1, content.1)))
-    (λ left ends. entry_file_ends p.0 p.1 path.0.parts path.1 (subst FileEnds (sym time.0.parts) (ends.0 t.0 time.1)) ends.1)
+    (λ left ends. in_file p.0 p.1 (ap (λ (w : List ℕ). 1 ∷ w) path.0.parts) path.1 (rw time.0.parts (ends.0 t.0 time.1)) ends.1)
 
-entry_file_law : (last bytes : List ℕ) (p : List ℕ × List ℕ) → TakesPath last bytes p → MatchResult (number_at w64 p.1 >>= λ t. content_at t.1 >>= λ c. Ok (made p.0 t.0 c.0, c.1)) (TakesEntry last bytes) (EntryBreaks last bytes)
-entry_file_law last bytes p path =
-    bind_law (number_at w64 p.1) (λ t. content_at t.1 >>= λ c. Ok (made p.0 t.0 c.0, c.1)) (TakesNumber w64 (2 ^ 64) p.1) (EndsWithin 8 p.1) (TakesEntry last bytes) (EntryBreaks last bytes) (number_law w64 (2 ^ 64) wide64 p.1 path.0.rest_fits)
-    (λ t time. entry_content_law last bytes p path t time)
-    (λ left ends. entry_file_ends p.0 p.1 path.0.parts path.1 (time_ends ends.0) ends.1)
+entry_file_law : (f : Format) (last bytes : List ℕ) (p : List ℕ × List ℕ) → TakesPath last bytes p → MatchResult (number_at w64 p.1 >>= λ t. content_at t.1 >>= λ c. Ok (made p.0 t.0 c.0, c.1)) (TakesEntry last bytes) (Breaks f last (1 ∷ bytes))
+entry_file_law f last bytes p path =
+    bind_law (number_at w64 p.1) (λ t. content_at t.1 >>= λ c. Ok (made p.0 t.0 c.0, c.1)) (TakesNumber w64 (2 ^ 64) p.1) (EndsWithin 8 p.1) (TakesEntry last bytes) (Breaks f last (1 ∷ bytes)) (number_law w64 (2 ^ 64) wide64 p.1 path.0.rest_fits)
+    (entry_content_law f last bytes p path)
+    (λ left ends. in_file p.0 p.1 (ap (λ (w : List ℕ). 1 ∷ w) path.0.parts) path.1 (time_ends ends.0) ends.1)
 
-entry_law : (last bytes : List ℕ) → IsBytes bytes → MatchResult (entry_at last bytes) (TakesEntry last bytes) (EntryBreaks last bytes)
-entry_law last bytes fits =
-    bind_law (path_at last bytes) (λ p. number_at w64 p.1 >>= λ t. content_at t.1 >>= λ c. Ok (made p.0 t.0 c.0, c.1)) (TakesPath last bytes) (PathBreaks last bytes) (TakesEntry last bytes) (EntryBreaks last bytes) (path_law last bytes fits)
-    (λ p path. entry_file_law last bytes p path)
-    (λ left breaks. entry_path_breaks breaks)
+entry_law : (f : Format) (last bytes : List ℕ) → IsBytes bytes → MatchResult (entry_at last bytes) (TakesEntry last bytes) (Breaks f last (1 ∷ bytes))
+entry_law f last bytes fits =
+    bind_law (path_at last bytes) (λ p. number_at w64 p.1 >>= λ t. content_at t.1 >>= λ c. Ok (made p.0 t.0 c.0, c.1)) (TakesPath last bytes) (PathBreaks last bytes) (TakesEntry last bytes) (Breaks f last (1 ∷ bytes)) (path_law last bytes fits)
+    (entry_file_law f last bytes) (λ left breaks. in_path 1 bytes refl refl breaks)
 
 -- ---- items
 
@@ -201,19 +184,15 @@ TakesItem f last bytes x = TakesOption f last bytes x.0 x.1
 end_law : (f : Format) (last rest : List ℕ) → MatchResult (end_at rest) (TakesItem f last (0 ∷ rest)) (Breaks f last (0 ∷ rest))
 end_law f last [] = refl
 end_law f last (byte ∷ more) =
-    choose_law (eqb (length (byte ∷ more)) 0) (Ok (None, byte ∷ more)) (Err (length (byte ∷ more))) (TakesItem f last (0 ∷ byte ∷ more)) (Breaks f last (0 ∷ byte ∷ more))
+    cond_both (eqb (length (byte ∷ more)) 0) (Ok (None, byte ∷ more)) (Err (length (byte ∷ more))) (λ r. MatchResult r (TakesItem f last (0 ∷ byte ∷ more)) (Breaks f last (0 ∷ byte ∷ more)))
     (λ empty. absurd (omega (arith, eqb-true (length (byte ∷ more)) 0 empty)))
     (λ fails. behind_end byte more refl refl)
 
-entry_breaks : (f : Format) (last rest : List ℕ) (left : ℕ) → EntryBreaks last rest left → Breaks f last (1 ∷ rest) left
-entry_breaks f last rest left (entry_path_breaks breaks) = in_path 1 rest refl refl breaks
-entry_breaks f last rest left (entry_file_ends path more parts ok ends none) = in_file path more (ap (λ (w : List ℕ). 1 ∷ w) parts) ok ends none
-
 taken_law : (f : Format) (last rest : List ℕ) → IsBytes rest → MatchResult (taken_at last rest) (TakesItem f last (1 ∷ rest)) (Breaks f last (1 ∷ rest))
 taken_law f last rest fits =
-    bind_law (entry_at last rest) (λ e. Ok (Some (Taken e.0), e.1)) (TakesEntry last rest) (EntryBreaks last rest) (TakesItem f last (1 ∷ rest)) (Breaks f last (1 ∷ rest)) (entry_law last rest fits)
+    bind_law (entry_at last rest) (λ e. Ok (Some (Taken e.0), e.1)) (TakesEntry last rest) (Breaks f last (1 ∷ rest)) (TakesItem f last (1 ∷ rest)) (Breaks f last (1 ∷ rest)) (entry_law f last rest fits)
     (λ e took. (Takes-behind 1 rest (spelled_path e.0.path ++ (to_be_bytes w64 e.0.time ++ spelled_content e.0.content)) e.1 took.0, took.1, took.2))
-    (λ left breaks. entry_breaks f last rest left breaks)
+    (λ left breaks. breaks)
 
 kept_law : (f : Format) (last rest : List ℕ) → keeps f ≡ true → IsBytes rest → MatchResult (kept_at last rest) (TakesItem f last (2 ∷ rest)) (Breaks f last (2 ∷ rest))
 kept_law f last rest keeping fits =
@@ -223,14 +202,13 @@ kept_law f last rest keeping fits =
 
 tagged_law : (f : Format) (last : List ℕ) (tag : ℕ) (rest : List ℕ) → IsBytes rest → MatchResult (tagged_at f last (length (tag ∷ rest)) tag rest) (TakesItem f last (tag ∷ rest)) (Breaks f last (tag ∷ rest))
 tagged_law f last tag rest fits =
-    let P = TakesItem f last (tag ∷ rest) in
-    let E = Breaks f last (tag ∷ rest) in
-    choose_law (eqb tag 0) (end_at rest) (cond (eqb tag 1) (taken_at last rest) (cond (eqb tag 2 && keeps f) (kept_at last rest) (Err (length (tag ∷ rest))))) P E
-    (λ is. subst (λ (t : ℕ). MatchResult (end_at rest) (TakesItem f last (t ∷ rest)) (Breaks f last (t ∷ rest))) (sym (eqb-true tag 0 is)) (end_law f last rest))
-    (λ no_end. choose_law (eqb tag 1) (taken_at last rest) (cond (eqb tag 2 && keeps f) (kept_at last rest) (Err (length (tag ∷ rest)))) P E
-    (λ is. subst (λ (t : ℕ). MatchResult (taken_at last rest) (TakesItem f last (t ∷ rest)) (Breaks f last (t ∷ rest))) (sym (eqb-true tag 1 is)) (taken_law f last rest fits))
-    (λ not_taken. choose_law (eqb tag 2 && keeps f) (kept_at last rest) (Err (length (tag ∷ rest))) P E
-    (λ is. let both = and_parts (eqb tag 2) (keeps f) is in subst (λ (t : ℕ). MatchResult (kept_at last rest) (TakesItem f last (t ∷ rest)) (Breaks f last (t ∷ rest))) (sym (eqb-true tag 2 both.0)) (kept_law f last rest both.1 fits))
+    let P = λ (r : Read (Option Item)). MatchResult r (TakesItem f last (tag ∷ rest)) (Breaks f last (tag ∷ rest)) in
+    cond_both (eqb tag 0) (end_at rest) (cond (eqb tag 1) (taken_at last rest) (cond (eqb tag 2 && keeps f) (kept_at last rest) (Err (length (tag ∷ rest))))) P
+    (λ is. rw (eqb-true tag 0 is) (end_law f last rest))
+    (λ no_end. cond_both (eqb tag 1) (taken_at last rest) (cond (eqb tag 2 && keeps f) (kept_at last rest) (Err (length (tag ∷ rest)))) P
+    (λ is. rw (eqb-true tag 1 is) (taken_law f last rest fits))
+    (λ not_taken. cond_both (eqb tag 2 && keeps f) (kept_at last rest) (Err (length (tag ∷ rest))) P
+    (λ is. let both = and_parts (eqb tag 2) (keeps f) is in rw (eqb-true tag 2 both.0) (kept_law f last rest both.1 fits))
     (λ not_kept. wrong_tag tag rest refl (or_from (eqb tag 0) (names_path f tag) no_end (or_from (eqb tag 1) (eqb tag 2 && keeps f) not_taken not_kept)) refl)))
 
 -- an item or the end, and nothing else, is read where it is spelled; else the first field that breaks its rule is found

@@ -73,7 +73,7 @@ taken_right path last front x rest rising before =
 
 front_none : (path : List ℕ) (front rest : List Item) → taken_in path rest ≡ None → taken_in path (front ++ rest) ≡ taken_in path front
 front_none path [] rest none = none
-front_none path (Taken e ∷ front) rest none = ap (λ (o : Option Entry). cond (bytes_eq e.path path) (Some e) o) (front_none path front rest none)
+front_none path (Taken e ∷ front) rest none = rw (front_none path front rest none) refl
 front_none path (Kept kept ∷ front) rest none = front_none path front rest none
 
 pub taken_left : (path last : List ℕ) (front : List Item) (x : Item) (rest : List Item) → rise_behind last (paths (front ++ x ∷ rest)) ≡ true → is_before path (path_of x) ≡ true → taken_in path (front ++ x ∷ rest) ≡ taken_in path front
@@ -96,12 +96,9 @@ pub record Narrows (path : List ℕ) (items part : List Item) : Type 0 where
   pub last : List ℕ
   pub rising : rise_behind last (paths part) ≡ true
 
-rises_so : (last : List ℕ) (part whole : List Item) → part ≡ whole → rise_behind last (paths part) ≡ true → rise_behind last (paths whole) ≡ true
-rises_so last part whole is rising = subst (λ (w : List Item). rise_behind last (paths w) ≡ true) is rising
-
 pub narrows_right : (path : List ℕ) (items part front : List Item) (x : Item) (back : List Item) → Narrows path items part → part ≡ front ++ x ∷ back → slice_cmp nat_cmp (path_of x) path ≡ Less → Narrows path items back
 narrows_right path items part front x back has parts less =
-    let rising = rises_so has.last part (front ++ x ∷ back) parts has.rising in
+    let rising = rw parts at has.rising in
     record {
       same = sym (ap (taken_in path) parts ∙ taken_right path has.last front x back rising (ap is_lt less)) ∙ has.same;
       last = path_of x;
@@ -110,7 +107,7 @@ narrows_right path items part front x back has parts less =
 
 pub narrows_left : (path : List ℕ) (items part front : List Item) (x : Item) (back : List Item) → Narrows path items part → part ≡ front ++ x ∷ back → slice_cmp nat_cmp (path_of x) path ≡ Greater → Narrows path items front
 narrows_left path items part front x back has parts greater =
-    let rising = rises_so has.last part (front ++ x ∷ back) parts has.rising in
+    let rising = rw parts at has.rising in
     record {
       same = sym (ap (taken_in path) parts ∙ taken_left path has.last front x back rising (ap is_lt (nat_list_cmp_total.antisymm path (path_of x) ∙ ap ordering_reverse greater))) ∙ has.same;
       last = has.last;
@@ -119,16 +116,14 @@ narrows_left path items part front x back has parts greater =
 
 pub narrows_here : (path : List ℕ) (items part front : List Item) (x : Item) (back : List Item) → Narrows path items part → part ≡ front ++ x ∷ back → slice_cmp nat_cmp (path_of x) path ≡ Equal → taken_of x ≡ taken_in path items
 narrows_here path items part front x back has parts equal =
-    let rising = rises_so has.last part (front ++ x ∷ back) parts has.rising in
-    let here : taken_in (path_of x) part ≡ taken_of x = ap (taken_in (path_of x)) parts ∙ taken_here has.last front x back rising in
-    sym (subst (λ (p : List ℕ). taken_in p part ≡ taken_of x) (slice_cmp-IsAntisymmetric nat_cmp-IsAntisymmetric (path_of x) path equal) here) ∙ has.same
+    rw (← has.same, ← slice_cmp-IsAntisymmetric nat_cmp-IsAntisymmetric (path_of x) path equal, parts) (sym (taken_here has.last front x back (rw parts at has.rising)))
 
 -- the two halves, and the item between them
 pub halved : (part : List Item) (m : ℕ) (front tail : List Item) (x : Item) → front ≡ take m part → tail ≡ drop m part → 0 < length tail → x ≡ get_or tail 0 x → part ≡ front ++ x ∷ take (length tail - 1) (drop 1 tail)
 halved part m front [] x front_is tail_is some is = absurd (omega arith)
 halved part m front (t ∷ ts) x front_is tail_is some is =
-    sym (take-append-drop m part) ∙ ap (λ (w : List Item). w ++ drop m part) (sym front_is) ∙ ap (λ (w : List Item). front ++ w) (sym tail_is)
-    ∙ ap (λ (y : Item). front ++ y ∷ ts) (sym is) ∙ ap (λ (w : List Item). front ++ x ∷ w) (sym (take_all (length (t ∷ ts) - 1) ts (omega arith)))
+    let rest : take (length (t ∷ ts) - 1) ts ≡ ts = take_all (length (t ∷ ts) - 1) ts (omega arith) in
+    rw (rest, is, front_is, tail_is) (sym (take-append-drop m part))
 
 pub compared : (path other given : List ℕ) (o : Ordering) → given ≡ path → o ≡ slice_cmp nat_cmp given other → slice_cmp nat_cmp path other ≡ o
-compared path other given o is answer = ap (λ (p : List ℕ). slice_cmp nat_cmp p other) (sym is) ∙ sym answer
+compared path other given o is answer = rw (← is) (sym answer)

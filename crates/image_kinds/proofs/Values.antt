@@ -8,17 +8,11 @@ use Rattle.image_kinds.specs.Decoding.{IsStreamFault, IsReadAs}
 use Rattle.image_kinds.proofs.Fronts.{one_value, spelled_is_good}
 use Rattle.image_kinds.specs.declared.format.Format.TheVariants as format
 
-same_taken : (x y : Entry) → Taken x ≡ Taken y → x ≡ y
-same_taken x y e = cc
-
 pub same_entries : (xs ys : List Entry) → map Taken xs ≡ map Taken ys → xs ≡ ys
 same_entries [] [] e = refl
 same_entries [] (y ∷ ys) e = absurd cc
 same_entries (x ∷ xs) [] e = absurd cc
-same_entries (x ∷ xs) (y ∷ ys) e =
-    let heads : Taken x ≡ Taken y = cc in
-    let tails : map Taken xs ≡ map Taken ys = cc in
-    ap (λ (z : Entry). z ∷ xs) (same_taken x y heads) ∙ ap (λ (zs : List Entry). y ∷ zs) (same_entries xs ys tails)
+same_entries (x ∷ xs) (y ∷ ys) e = cc (same_entries xs ys cc)
 
 -- each item of a stream is taken
 pub each_taken : (items : List Item) → AllByRecursion (IsItem format.Stream) items → map Taken (filter_map taken_of items) ≡ items

@@ -19,15 +19,13 @@ length_at last (x ∷ xs) (suc k) d rising lt = length_at (path_of x) xs k d (an
 
 pub entry_length_at : (last : List ℕ) (entries : List Entry) (k : ℕ) (d : Entry) → rise_behind last (map path_of (map Taken entries)) ≡ true → k < length entries → is_path_length (length (get_or entries k d).path) ≡ true
 entry_length_at last entries k d rising lt =
-    subst (λ (i : Item). is_path_length (length (path_of i)) ≡ true) (get_or-map Taken entries k d) (length_at last (map Taken entries) k (Taken d) rising (omega (arith, lt, length-map entries Taken)))
+    rw (get_or-map Taken entries k d) at (length_at last (map Taken entries) k (Taken d) rising (omega (arith, lt, length-map entries Taken)))
 
 -- one more entry is written
 pub written_more : (out new front : List ℕ) (entries : List Entry) (k : ℕ) (x : Entry) → k < length entries → x ≡ get_or entries k x → out ≡ front ++ flat_map spelled_entry (take k entries) → new ≡ out ++ spelled_entry x → new ≡ front ++ flat_map spelled_entry (take (k + 1) entries)
 written_more out new front entries k x lt is so_far adds =
-    adds ∙ ap (λ (w : List ℕ). w ++ spelled_entry x) so_far ∙ flat_map_more spelled_entry front (take k entries) x
-    ∙ ap (λ (es : List Entry). front ++ flat_map spelled_entry es) (ap (λ (y : Entry). take k entries ++ y ∷ []) is ∙ sym (take_more entries k x lt))
+    rw (take_more entries k x lt, ← is, ← flat_map_more spelled_entry front (take k entries) x, ← so_far) adds
 
 pub written_all : (out new front : List ℕ) (entries : List Entry) (k : ℕ) → length entries ≤ k → out ≡ front ++ flat_map spelled_entry (take k entries) → new ≡ out ++ 0 ∷ [] → new ≡ front ++ (flat_map spelled_item (map Taken entries) ++ 0 ∷ [])
 written_all out new front entries k le so_far adds =
-    let whole : out ≡ front ++ flat_map spelled_item (map Taken entries) = so_far ∙ ap (λ (es : List Entry). front ++ flat_map spelled_entry es) (take_all k entries le) ∙ ap (λ (w : List ℕ). front ++ w) (sym (flat_map-map spelled_item Taken entries)) in
-    adds ∙ ap (λ (w : List ℕ). w ++ 0 ∷ []) whole ∙ append_assoc front (flat_map spelled_item (map Taken entries)) (0 ∷ [])
+    rw (adds, so_far, take_all k entries le, flat_map-map spelled_item Taken entries) (append_assoc front (flat_map spelled_entry entries) (0 ∷ []))
