@@ -1,7 +1,7 @@
 -- What is read of the bytes of records, and what writes make of them.
-use Rattle.pool_journal.proofs.Common.{◌≡◌, inl, inr, ℕ, zero, suc, ◌+◌, ◌-◌, ◌*◌, ◌≤◌, ◌<◌, ◌^◌, min, List, [], ◌∷◌, ◌++◌, length, take, drop, replicate, get_or, refl, sym, ◌∙◌, ap, subst, arith, append_assoc, length-append, take-append-drop, add-zero, Some, if◌then◌else◌, nat_lt, nat_le, ◌==◌, from_be_bytes-to_be_bytes_4, w32, to_be_bytes, from_be_bytes, written, Torn, lt-ltb, ne_eqb, le-leb}
+use Rattle.pool_journal.proofs.Common.{◌≡◌, inl, inr, ℕ, zero, suc, ◌+◌, ◌-◌, ◌*◌, ◌≤◌, ◌<◌, ◌^◌, min, List, [], ◌∷◌, ◌++◌, length, take, drop, replicate, get_or, refl, sym, ◌∙◌, ap, subst, arith, append_assoc, length-append, take-append-drop, add-zero, Some, if◌then◌else◌, nat_lt, nat_le, from_be_bytes-to_be_bytes_4, w32, to_be_bytes, from_be_bytes, written, Torn, lt-ltb, ne_eqb, le-leb}
 use Rattle.std.proofs.lemmas.List.{take_at, drop_at, drop_more, append-nil, drop-drop}
-use Rattle.std.proofs.lemmas.Bool.{cases_eq, cases_lt, cond-true, cond-false, lt-leb}
+use Rattle.std.proofs.lemmas.Bool.{cases_eq, cases_lt, cond-true, lt-leb}
 use Rattle.pool_journal.specs.Entries.{Record, record_of, spelled_entry, staged_record}
 use Rattle.pool_journal.specs.Records.{header, Found, Reading, found, broken, behind, bytes_from, with_record, records, reading, spelled, AllSmall, Spell, Holds}
 use Rattle.pool_journal.specs.Stops.{with_one, IsBeforeOrAfter}
@@ -37,17 +37,13 @@ read_on (suc n) at (b ∷ bodies) (f ∷ fs) rest spell small some long =
     let split : drop 4 after ≡ b ++ behind_body = append_assoc b (spelled bodies) rest in
     let long_enough : 4 + length b < length after = omega (arith, length-append (b ++ spelled bodies) rest, length-append b (spelled bodies)) in
     let body : take (length b) (drop 4 after) ≡ b = ap (λ (l : List ℕ). take (length b) l) split ∙ take_at b behind_body (length b) refl in
-    let next : drop (4 + length b) after ≡ behind_body = sym (drop-drop (length b) 4 after) ∙ ap (λ (l : List ℕ). drop (length b) l) split ∙ drop_at b behind_body (length b) refl in
+    let next : drop (4 + length b) after ≡ behind_body = sym (drop-drop (length b) 4 after) ∙ rw split (drop_at b behind_body (length b) refl) in
     let more = read_on n (at + 5 + length b) bodies fs rest spell.3 small.1 some (omega arith) in
     let place : at + 5 + length b + length (spelled bodies) ≡ at + length (spelled (b ∷ bodies)) = omega (arith, length-append b (spelled bodies)) in
     let one : record { at = at; from = bytes_from at (length b) f.is; is = f.is } ≡ f = λ i. record { at = sym spell.0 i; from = sym spell.1 i; is = f.is } in
     let here : AtRecord n at (length b) after ≡ all_behind (f ∷ fs) (records (suc more.0) (at + length (spelled (b ∷ bodies))) rest) =
-    cond-true (nat_lt (4 + length b) (length after)) _ (broken [] at) (lt-ltb (4 + length b) (length after) long_enough)
-    ∙ (λ i. with_record at (length b) (record_of (body i)) (records n (at + 5 + length b) (next i)))
-    ∙ (λ i. with_record at (length b) (spell.2 i) (more.1 i))
-    ∙ ap (λ (g : Found). behind g (all_behind fs (records (suc more.0) (at + 5 + length b + length (spelled bodies)) rest))) one
-    ∙ ap (λ (k : ℕ). behind f (all_behind fs (records (suc more.0) k rest))) place in
-    (more.0, subst (λ (k : ℕ). AtRecord n at k after ≡ all_behind (f ∷ fs) (records (suc more.0) (at + length (spelled (b ∷ bodies))) rest)) (sym size) here)
+    rw (lt-ltb (4 + length b) (length after) long_enough, body, next, spell.2, more.1, place) (ap (λ (g : Found). behind g (all_behind fs (records (suc more.0) (at + length (spelled (b ∷ bodies))) rest))) one) in
+    (more.0, rw size here)
 
 -- so many bytes for so many records at least
 pub length_spelled : (bodies : List (List ℕ)) → 5 * length bodies ≤ length (spelled bodies)
@@ -59,17 +55,16 @@ pub reading_on : (bytes : List ℕ) (bodies : List (List ℕ)) (fs : List Found)
     → (m : ℕ) × (reading bytes ≡ all_behind fs (records (suc m) (16 + length (spelled bodies)) rest))
 reading_on bytes bodies fs rest is spell small some long =
     let body : List ℕ = spelled bodies ++ rest in
-    let whole : bytes ≡ header ++ body = is ∙ append_assoc header (spelled bodies) rest in
     let many = length_spelled bodies in
     let enough : length bodies < length (header ++ body) = omega (arith, length-append (spelled bodies) rest) in
     let read = read_on (length (header ++ body)) 16 bodies fs rest spell small some enough in
-    (read.0, ap reading whole ∙ cond-false (nat_le (length (header ++ body)) 17) (found []) _ (lt-leb (length (header ++ body)) 17 (subst (λ (l : List ℕ). 17 < length l) whole long)) ∙ read.1)
+    (read.0, rw is (rw (lt-leb (length (header ++ body)) 17 (rw is at long)) read.1))
 
 pub reads : (bytes : List ℕ) (fs : List Found) (end : ℕ) → Holds bytes fs end → reading bytes ≡ found fs
 reads bytes fs end holds = elim (cases_lt 17 (length bytes)) [
   | inl more ↦
       let read = reading_on bytes holds.bodies fs (holds.gate ∷ holds.tail) holds.is holds.spell holds.small (omega arith) more in
-      read.1 ∙ ap (all_behind fs) (cond-false (holds.gate == 165) _ (found []) (ne_eqb holds.gate 165 holds.shut)) ∙ all_behind-found fs
+      read.1 ∙ rw (ne_eqb holds.gate 165 holds.shut) (all_behind-found fs)
   | inr few ↦ cond-true (nat_le (length bytes) 17) (found []) _ (le-leb (length bytes) 17 few) ∙ ap found (none holds.bodies fs holds.spell (omega (arith, ap length holds.is, length_spelled holds.bodies, length-append (header ++ spelled holds.bodies) (holds.gate ∷ holds.tail))))
 ]
   where
@@ -110,8 +105,7 @@ torn_at p q c at n is torn =
 pub spelled-one : (bodies : List (List ℕ)) (body : List ℕ) (rest : List ℕ) → spelled (bodies ++ body ∷ []) ++ rest ≡ spelled bodies ++ 165 ∷ (to_be_bytes w32 (length body) ++ body ++ rest)
 spelled-one [] body rest = ap (λ (l : List ℕ). 165 ∷ to_be_bytes w32 (length body) ++ l) (ap (λ (l : List ℕ). l ++ rest) (append-nil body))
 spelled-one (x ∷ bodies) body rest =
-    ap (λ (l : List ℕ). 165 ∷ to_be_bytes w32 (length x) ++ l)
-    (append_assoc x (spelled (bodies ++ body ∷ [])) rest ∙ ap (λ (l : List ℕ). x ++ l) (spelled-one bodies body rest) ∙ sym (append_assoc x (spelled bodies) (165 ∷ (to_be_bytes w32 (length body) ++ body ++ rest))))
+    rw (append_assoc x (spelled (bodies ++ body ∷ [])) rest, spelled-one bodies body rest, append_assoc x (spelled bodies) (165 ∷ (to_be_bytes w32 (length body) ++ body ++ rest))) refl
 
 -- the same with the next gate closed
 spelled-push : (bodies : List (List ℕ)) (body : List ℕ) (rest : List ℕ) → spelled (bodies ++ body ∷ []) ++ 0 ∷ rest ≡ spelled bodies ++ 165 ∷ (staged_record body ++ rest)
@@ -175,7 +169,7 @@ module _ (fs : List Found) (end : ℕ) (o : List ℕ) (holds : Holds o fs end) w
       gate = 0;
       tail = rest;
       shut = λ z. absurd (cc z);
-      is = append_assoc header (spelled holds.bodies) (165 ∷ (staged_record body ++ rest)) ∙ ap (λ (l : List ℕ). header ++ l) (sym (spelled-push holds.bodies body rest)) ∙ sym (append_assoc header (spelled (holds.bodies ++ body ∷ [])) (0 ∷ rest));
+      is = ap (λ (l : List ℕ). header ++ l) (sym (spelled-push holds.bodies body rest));
       small = AllSmall-push holds.bodies body holds.small fits;
       spell = Spell-push 16 holds.bodies fs body (record { at = end; from = end + 5 + length (spelled_entry r.entry); is = r }) holds.spell holds.end_is (omega (arith, size)) spells;
       end_is = omega (arith, holds.end_is, length-spelled-push holds.bodies body);

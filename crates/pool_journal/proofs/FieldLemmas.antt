@@ -1,9 +1,9 @@
 -- Reading what was spelled, field by field.
-use Rattle.pool_journal.proofs.Common.{◌≡◌, ◌≢◌, inl, inr, ℕ, ◌<◌, ◌^◌, List, [], ◌∷◌, ◌++◌, length, Some, None, true, refl, sym, ◌∙◌, ap, suc, arith, append_assoc, length-append, Option, option_and_then, option_map, nat_lt, ◌==◌, if◌then◌else◌, take_at, drop_at, append-nil, nat_tests, from_be_bytes-to_be_bytes_2, from_be_bytes-to_be_bytes_4, from_be_bytes-to_be_bytes_8, w16, w32, w64, to_be_bytes, WholeImage, Ok, Err, Result, OnOk, le-ltb}
-use Rattle.std.proofs.lemmas.Bool.{cases_eq, cond-true, cond-false}
+use Rattle.pool_journal.proofs.Common.{◌≡◌, ◌≢◌, inl, inr, ℕ, ◌<◌, ◌^◌, List, [], ◌∷◌, ◌++◌, length, Some, None, true, refl, sym, ◌∙◌, ap, suc, arith, append_assoc, length-append, option_map, nat_lt, ◌==◌, if◌then◌else◌, take_at, drop_at, append-nil, nat_tests, from_be_bytes-to_be_bytes_2, from_be_bytes-to_be_bytes_4, from_be_bytes-to_be_bytes_8, w16, w32, w64, to_be_bytes, WholeImage, Ok, Err, Result, OnOk, le-ltb}
+use Rattle.std.proofs.lemmas.Bool.{cases_eq, cond-false}
 use Rattle.site_types.specs.Names.{is_name}
-use Rattle.pool_journal.specs.Fields.{string, strings, kind_code, base_code, Field, short_field, count_field, long_field, text_first, strings_field, behind_length, string_field, named, name_field, kind_field, base_coded, base_field, both, byte_field, Kind, Full, Differential, Cumulative, Base}
-use Rattle.pool_journal.specs.Entries.{Record, spelled_id, spelled_names, spelled_kind_and_base, spelled_lifecycle, spelled_longs, spelled_image, spelled_settings, spelled_entry, body_of, id_made, id_field, made_under_field, taken_as_field, version_field, moments_field, image_made, settings_field, whole_image_field, without_bytes, with_bytes, record_of, AllShort, AreLines, IsFormed, IsSpellable, of_kind, BackupId, Entry}
+use Rattle.pool_journal.specs.Fields.{string, strings, kind_code, base_code, Field, short_field, count_field, long_field, strings_field, string_field, name_field, kind_field, base_coded, base_field, both, byte_field, Kind, Full, Differential, Cumulative, Base}
+use Rattle.pool_journal.specs.Entries.{Record, spelled_id, spelled_names, spelled_kind_and_base, spelled_lifecycle, spelled_longs, spelled_image, spelled_settings, spelled_entry, body_of, id_made, id_field, made_under_field, taken_as_field, version_field, moments_field, settings_field, whole_image_field, record_of, AllShort, AreLines, IsFormed, IsSpellable, Entry}
 use Rattle.site_types.specs.declared.image.Base.TheVariants as base
 use Rattle.pool_journal.specs.declared.entry.Entry.TheVariants as entry
 
@@ -18,14 +18,13 @@ long-spelled n rest small = cond-false (nat_lt (length (to_be_bytes w64 n ++ res
 
 pub string-spelled : (text rest : List ℕ) → length text < 2 ^ 16 → string_field (string text ++ rest) ≡ Some (text, rest)
 string-spelled text rest small =
-    let behind : List ℕ = text ++ rest in
-    ap (λ (o : Option (ℕ × List ℕ)). option_and_then behind_length o) (short-spelled (length text) behind small)
-    ∙ cond-false (nat_lt (length behind) (length text)) None _ (le-ltb (length behind) (length text) (omega (arith, length-append text rest))) ∙ (λ i. Some (take_at text rest (length text) refl i, drop_at text rest (length text) refl i))
+    let long = le-ltb (length (text ++ rest)) (length text) (omega (arith, length-append text rest)) in
+    rw (short-spelled (length text) (text ++ rest) small, long, take_at text rest (length text) refl, drop_at text rest (length text) refl) refl
 
 pub name-spelled : (name rest : List ℕ) → is_name name ≡ true → name_field (string name ++ rest) ≡ Some (name, rest)
 name-spelled name rest is =
     let small : length name < 2 ^ 16 = grind (arith, nat_tests) in
-    ap (λ (o : Option (List ℕ × List ℕ)). option_and_then named o) (string-spelled name rest small) ∙ cond-true (is_name name) (Some (name, rest)) None is
+    rw (string-spelled name rest small, is) refl
 
 pub kind-spelled : (kind : Kind) (rest : List ℕ) → kind_field (kind_code kind ∷ rest) ≡ Some (kind, rest)
 kind-spelled Full rest = refl
@@ -40,12 +39,10 @@ base_read (base.Time t) rest formed = elim (cases_eq t 0) [
 ]
 
 pub base-spelled : (b : Base) (rest : List ℕ) → b ≢ base.Time 0 → base_code b < 2 ^ 64 → base_field (to_be_bytes w64 (base_code b) ++ rest) ≡ Some (b, rest)
-base-spelled b rest formed small = ap (λ (o : Option (ℕ × List ℕ)). option_and_then base_coded o) (long-spelled (base_code b) rest small) ∙ base_read b rest formed
+base-spelled b rest formed small = rw (long-spelled (base_code b) rest small) (base_read b rest formed)
 
 pub both-spelled : {A B : Type 0} (f : Field A) (g : Field B) (a : A) (b : B) (x y rest : List ℕ) → f (x ++ (y ++ rest)) ≡ Some (a, y ++ rest) → g (y ++ rest) ≡ Some (b, rest) → both f g ((x ++ y) ++ rest) ≡ Some ((a, b), rest)
-both-spelled {A = A} {B = B} f g a b x y rest first second =
-    ap (both f g) (append_assoc x y rest) ∙ ap (λ (o : Option (A × List ℕ)). option_and_then (λ p. option_and_then (λ q. Some ((p.0, q.0), q.1)) (g p.1)) o) first
-    ∙ ap (λ (o : Option (B × List ℕ)). option_and_then (λ q. Some ((a, q.0), q.1)) o) second
+both-spelled f g a b x y rest first second = rw (append_assoc x y rest, first, second) refl
 
 pub image-spelled : (image : WholeImage) (rest : List ℕ) → IsSpellable (entry.WholeImage image) → image.base ≢ base.Time 0 → whole_image_field (spelled_image image ++ rest) ≡ Some (image, rest)
 image-spelled image rest can formed =
@@ -66,12 +63,8 @@ image-spelled image rest can formed =
     both-spelled name_field short_field image.lifecycle image.version (string image.lifecycle) (to_be_bytes w16 image.version) _ (name-spelled _ _ can.lifecycle) (short-spelled _ _ can.version) in
     let moments : moments_field (e ++ rest) ≡ Some ((image.completed, image.length), rest) =
     both-spelled long_field long_field image.completed image.length (to_be_bytes w64 image.completed) (to_be_bytes w64 image.length) _ (long-spelled _ _ can.completed) (long-spelled _ _ can.length) in
-    ap whole_image_field regroup
-    ∙ ap (λ (o : Option (BackupId × List ℕ)). option_and_then (λ p. option_and_then (λ q. option_and_then (λ r. option_and_then (λ s. option_and_then (λ t. Some (image_made p.0 q.0 r.0 s.0 t.0, t.1)) (moments_field s.1)) (version_field r.1)) (taken_as_field q.1)) (made_under_field p.1)) o) id
-    ∙ ap (λ (o : Option ((List ℕ × List ℕ) × List ℕ)). option_and_then (λ q. option_and_then (λ r. option_and_then (λ s. option_and_then (λ t. Some (image_made image.id q.0 r.0 s.0 t.0, t.1)) (moments_field s.1)) (version_field r.1)) (taken_as_field q.1)) o) under
-    ∙ ap (λ (o : Option ((Kind × Base) × List ℕ)). option_and_then (λ r. option_and_then (λ s. option_and_then (λ t. Some (image_made image.id (image.policy, image.schedule) r.0 s.0 t.0, t.1)) (moments_field s.1)) (version_field r.1)) o) taken
-    ∙ ap (λ (o : Option ((List ℕ × ℕ) × List ℕ)). option_and_then (λ s. option_and_then (λ t. Some (image_made image.id (image.policy, image.schedule) (image.kind, image.base) s.0 t.0, t.1)) (moments_field s.1)) o) version
-    ∙ ap (λ (o : Option ((ℕ × ℕ) × List ℕ)). option_and_then (λ t. Some (image_made image.id (image.policy, image.schedule) (image.kind, image.base) (image.lifecycle, image.version) t.0, t.1)) o) moments
+    let read : whole_image_field (a ++ (b ++ (c ++ (d ++ (e ++ rest))))) ≡ Some (image, rest) = rw (id, under, taken, version, moments) refl in
+    ap whole_image_field regroup ∙ read
 
 pub count-spelled : (n : ℕ) (rest : List ℕ) → n < 2 ^ 32 → count_field (to_be_bytes w32 n ++ rest) ≡ Some (n, rest)
 count-spelled n rest small = cond-false (nat_lt (length (to_be_bytes w32 n ++ rest)) 4) None _ (le-ltb (length (to_be_bytes w32 n ++ rest)) 4 (omega arith)) ∙ ap (λ (k : ℕ). Some (k, rest)) (from_be_bytes-to_be_bytes_4 n small)
@@ -79,35 +72,29 @@ count-spelled n rest small = cond-false (nat_lt (length (to_be_bytes w32 n ++ re
 pub strings-spelled : (texts : List (List ℕ)) (rest : List ℕ) → AllShort texts → strings_field (length texts) (strings texts ++ rest) ≡ Some (texts, rest)
 strings-spelled [] rest short = refl
 strings-spelled (text ∷ texts) rest short =
-    let more : List ℕ = strings texts ++ rest in
-    ap (λ (l : List ℕ). strings_field (suc (length texts)) l) (append_assoc (string text) (strings texts) rest)
-    ∙ ap (λ (o : Option (List ℕ × List ℕ)). option_and_then (λ p. option_map (text_first p.0) (strings_field (length texts) p.1)) o) (string-spelled text more short.0)
-    ∙ ap (option_map (text_first text)) (strings-spelled texts rest short.1)
+    let read : strings_field (suc (length texts)) (string text ++ (strings texts ++ rest)) ≡ Some (text ∷ texts, rest) = rw (string-spelled text (strings texts ++ rest) short.0, strings-spelled texts rest short.1) refl in
+    ap (strings_field (suc (length texts))) (append_assoc (string text) (strings texts) rest) ∙ read
 
 pub settings-spelled : (lines : List (List ℕ)) → AreLines lines → settings_field (spelled_settings lines) ≡ Some (lines, [])
 settings-spelled lines are =
-    ap (λ (o : Option (ℕ × List ℕ)). option_and_then (λ p. strings_field p.0 p.1) o) (count-spelled (length lines) (strings lines) are.0)
-    ∙ ap (strings_field (length lines)) (sym (append-nil (strings lines))) ∙ strings-spelled lines [] are.1
+    rw (count-spelled (length lines) (strings lines) are.0) (ap (strings_field (length lines)) (sym (append-nil (strings lines))) ∙ strings-spelled lines [] are.1)
 
 -- a record's body spells it
 pub record_of-body : (r : Record) → IsSpellable r.entry → IsFormed r.entry r.bytes → record_of (body_of r) ≡ Some r
 record_of-body r = at r.entry r.bytes
   where
     at : (e : Entry) (bytes : List ℕ) → IsSpellable e → IsFormed e bytes → record_of (spelled_entry e ++ bytes) ≡ Some (record { entry = e; bytes = bytes })
-    at (entry.Settings lines) bytes can formed =
-        ap (λ (l : List ℕ). record_of (spelled_entry (entry.Settings lines) ++ l)) formed.1 ∙ ap record_of (append-nil (spelled_entry (entry.Settings lines)))
-        ∙ ap (λ (o : Option (List (List ℕ) × List ℕ)). option_and_then without_bytes o) (settings-spelled lines formed.0) ∙ ap (λ (l : List ℕ). Some (record { entry = entry.Settings lines; bytes = l })) (sym formed.1)
-    at (entry.WholeImage image) bytes can formed =
-        ap (λ (o : Option (WholeImage × List ℕ)). option_and_then with_bytes o) (image-spelled image bytes can formed.1) ∙ chosen image.length (length bytes) _ None formed.0
+    at (entry.Settings lines) bytes can formed = rw (formed.1, append-nil (strings lines), settings-spelled lines formed.0) refl
+    at (entry.WholeImage image) bytes can formed = rw (image-spelled image bytes can formed.1) (chosen image.length (length bytes) _ None formed.0)
 
 -- five parts pushed one behind another
 pub five_pushed : {T E : Type 0} (r : Result T E) (o a b c d e n1 n2 n3 n4 n5 : List ℕ) → n1 ≡ o ++ a → n2 ≡ n1 ++ b → n3 ≡ n2 ++ c → n4 ≡ n3 ++ d → OnOk r (n5 ≡ n4 ++ e) → OnOk r (n5 ≡ o ++ (a ++ b ++ c ++ d ++ e))
 five_pushed (Err x) o a b c d e n1 n2 n3 n4 n5 p q r s t = t
 five_pushed (Ok v) o a b c d e n1 n2 n3 n4 n5 p q r s t =
-    t ∙ ap (λ (l : List ℕ). l ++ e) (s ∙ ap (λ (l : List ℕ). l ++ d) (r ∙ ap (λ (l : List ℕ). l ++ c) (q ∙ ap (λ (l : List ℕ). l ++ b) p)))
-    ∙ ap (λ (l : List ℕ). l ++ c ++ d ++ e) (append_assoc o a b) ∙ ap (λ (l : List ℕ). l ++ d ++ e) (append_assoc o (a ++ b) c) ∙ ap (λ (l : List ℕ). l ++ e) (append_assoc o (a ++ b ++ c) d) ∙ append_assoc o (a ++ b ++ c ++ d) e
+    let last : n5 ≡ n4 ++ e = t in
+    rw (last, s, r, q, p) (simp append_assoc)
 
 pub whole_image_read : (body rest bytes : List ℕ) (image : WholeImage) → byte_field body ≡ Some (7, rest) → whole_image_field rest ≡ Some (image, bytes) → image.length ≡ length bytes
     → record_of body ≡ Some (record { entry = entry.WholeImage image; bytes = bytes })
 whole_image_read body rest bytes image kind fields long =
-    ap (λ (o : Option (ℕ × List ℕ)). option_and_then of_kind o) kind ∙ ap (λ (o : Option (WholeImage × List ℕ)). option_and_then with_bytes o) fields ∙ chosen image.length (length bytes) _ None long
+    rw (kind, fields) (chosen image.length (length bytes) _ None long)

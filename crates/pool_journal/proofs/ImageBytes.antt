@@ -1,5 +1,5 @@
 -- Where the bytes of an image stand, and what is read of them.
-use Rattle.pool_journal.proofs.Common.{◌≡◌, ℕ, zero, suc, ◌+◌, ◌<◌, List, [], ◌∷◌, ◌++◌, length, take, drop, get_or, refl, sym, ◌∙◌, ap, subst, arith, append_assoc, length-append, Contains, take_at, drop_at, w32, to_be_bytes, ReadsFully}
+use Rattle.pool_journal.proofs.Common.{◌≡◌, ℕ, zero, suc, ◌+◌, ◌<◌, List, [], ◌∷◌, ◌++◌, length, take, drop, get_or, refl, sym, ◌∙◌, ap, arith, append_assoc, length-append, Contains, take_at, drop_at, w32, to_be_bytes, ReadsFully}
 use Rattle.std.proofs.lemmas.List.Elements.{Contains-append_left}
 use Rattle.pool_journal.specs.Entries.{Record}
 use Rattle.pool_journal.specs.Records.{header, Found, spelled, Spell, Holds}
@@ -22,21 +22,19 @@ inside : (at : ℕ) (bodies : List (List ℕ)) (fs : List Found) (f : Found) (k 
 inside at [] [] f k spell lt is = absurd (omega arith)
 inside at [] (g ∷ gs) f k spell lt is = absurd spell
 inside at (b ∷ bodies) [] f k spell lt is = absurd spell
-inside at (b ∷ bodies) (g ∷ gs) f zero spell lt is = subst (λ (h : Found). (n : ℕ) × StandAt h.is.bytes n (spelled (b ∷ bodies)) × (at + n ≡ h.from)) is here
-  where
-    here : (n : ℕ) × StandAt g.is.bytes n (spelled (b ∷ bodies)) × (at + n ≡ g.from)
-    here =
-        let ends = bytes_end b g.is spell.2 in
-        let size : length b ≡ length ends.front + length g.is.bytes = ap length ends.is ∙ length-append ends.front g.is.bytes in (
-          5 + length ends.front,
-          record {
-            before = 165 ∷ to_be_bytes w32 (length b) ++ ends.front;
-            behind = spelled bodies;
-            is = ap (λ (l : List ℕ). 165 ∷ to_be_bytes w32 (length b) ++ l) (ap (λ (l : List ℕ). l ++ spelled bodies) ends.is ∙ append_assoc ends.front g.is.bytes (spelled bodies));
-            place = omega arith;
-          },
-          omega (arith, size, spell.1),
-        )
+inside at (b ∷ bodies) (g ∷ gs) f zero spell lt is =
+    let ends = bytes_end b g.is spell.2 in
+    let size : length b ≡ length ends.front + length g.is.bytes = ap length ends.is ∙ length-append ends.front g.is.bytes in
+    rw (← is) (
+      5 + length ends.front,
+      record {
+        before = 165 ∷ to_be_bytes w32 (length b) ++ ends.front;
+        behind = spelled bodies;
+        is = ap (λ (l : List ℕ). 165 ∷ to_be_bytes w32 (length b) ++ l) (ap (λ (l : List ℕ). l ++ spelled bodies) ends.is ∙ append_assoc ends.front g.is.bytes (spelled bodies));
+        place = omega arith;
+      },
+      omega (arith, size, spell.1),
+    )
 inside at (b ∷ bodies) (g ∷ gs) f (suc k) spell lt is =
     let later = inside (at + 5 + length b) bodies gs f k spell.3 (omega arith) is in
     let stand = later.1 in (
@@ -56,12 +54,9 @@ from_there bytes fs end f holds there =
     let found = inside 16 holds.bodies fs f there.0 holds.spell there.1 there.2 in
     let stand = found.1 in
     let after : List ℕ = holds.gate ∷ holds.tail in
-    let whole : bytes ≡ (header ++ stand.before) ++ (f.is.bytes ++ (stand.behind ++ after)) =
-    holds.is ∙ ap (λ (l : List ℕ). header ++ l ++ after) stand.is ∙ append_assoc header (stand.before ++ (f.is.bytes ++ stand.behind)) after
-    ∙ ap (λ (l : List ℕ). header ++ l) (append_assoc stand.before (f.is.bytes ++ stand.behind) after ∙ ap (λ (l : List ℕ). stand.before ++ l) (append_assoc f.is.bytes stand.behind after))
-    ∙ sym (append_assoc header stand.before (f.is.bytes ++ (stand.behind ++ after))) in
+    let whole : bytes ≡ (header ++ stand.before) ++ (f.is.bytes ++ (stand.behind ++ after)) = rw (holds.is, stand.is) (simp append_assoc) in
     let place : length (header ++ stand.before) ≡ f.from = omega (arith, length-append header stand.before, stand.place, found.2) in
-    (stand.behind ++ after, ap (λ (l : List ℕ). drop f.from l) whole ∙ drop_at (header ++ stand.before) (f.is.bytes ++ (stand.behind ++ after)) f.from place)
+    (stand.behind ++ after, rw whole (drop_at (header ++ stand.before) (f.is.bytes ++ (stand.behind ++ after)) f.from place))
 
 -- a full read from there on
 pub read_there : (bytes into : List ℕ) (fs : List Found) (end from n : ℕ) (f : Found) → Holds bytes fs end → Contains fs f → from ≡ f.from → length into ≡ length f.is.bytes → ReadsFully bytes from n into → take n into ≡ f.is.bytes

@@ -1,5 +1,5 @@
 -- Strings, one behind another.
-use Rattle.std.proofs.Common.{◌≡◌, ℕ, ◌+◌, ◌-◌, ◌<◌, ◌≤◌, ◌^◌, min, zero, suc, List, [], ◌∷◌, ◌++◌, length, get_or, take, refl, sym, ap, subst, ◌∙◌, append_assoc, length-append, arith, Option, Some, None, Err, option_map, option_and_then}
+use Rattle.std.proofs.Common.{◌≡◌, ℕ, ◌+◌, ◌-◌, ◌<◌, ◌≤◌, ◌^◌, min, zero, suc, List, [], ◌∷◌, ◌++◌, length, get_or, take, refl, sym, ap, subst, ◌∙◌, append_assoc, length-append, arith, Option, Some, None, Err, option_map}
 use Rattle.std.proofs.lemmas.List.{flat_map_more, take_more, append-nil}
 use Rattle.pool_journal.specs.Fields.{string, strings, string_field, strings_field, text_first, IsField, FieldFault, Broken, NoMemory}
 use Rattle.pool_journal.specs.Entries.{AllShort}
@@ -11,11 +11,10 @@ short_at (text ∷ texts) (suc k) x all lt is = short_at texts k x all.1 (omega 
 
 -- one more is pushed
 pub one_more : (texts : List (List ℕ)) (k : ℕ) (x : List ℕ) (front : List ℕ) → k < length texts → x ≡ get_or texts k x → (front ++ strings (take k texts)) ++ string x ≡ front ++ strings (take (k + 1) texts)
-one_more texts k x front lt is =
-    flat_map_more string front (take k texts) x ∙ ap (λ (ts : List (List ℕ)). front ++ strings ts) (ap (λ (y : List ℕ). take k texts ++ y ∷ []) is ∙ sym (take_more texts k x lt))
+one_more texts k x front lt is = rw (take_more texts k x lt, ← is) (flat_map_more string front (take k texts) x)
 
 pub pushed_more : (out new front : List ℕ) (texts : List (List ℕ)) (k : ℕ) (x : List ℕ) → k < length texts → x ≡ get_or texts k x → out ≡ front ++ strings (take k texts) → new ≡ out ++ string x → new ≡ front ++ strings (take (k + 1) texts)
-pushed_more out new front texts k x lt is so_far adds = adds ∙ ap (λ (w : List ℕ). w ++ string x) so_far ∙ one_more texts k x front lt is
+pushed_more out new front texts k x lt is so_far adds = rw (← one_more texts k x front lt is, ← so_far) adds
 
 -- and counted
 pub counted_more : (size two all : ℕ) (texts : List (List ℕ)) (k : ℕ) (x : List ℕ) → k < length texts → x ≡ get_or texts k x → size ≡ min (length (strings (take k texts))) (2 ^ 64 - 1) → two ≡ min (size + 2) (2 ^ 64 - 1) → all ≡ min (two + length x) (2 ^ 64 - 1)
@@ -43,20 +42,16 @@ none_read count bytes = subst (λ (n : ℕ). strings_field count bytes ≡ behin
 
 module _ (count i : ℕ) (start rest : List ℕ) (texts : List (List ℕ)) (lt : i < count) (so_far : strings_field count start ≡ behind_texts texts (strings_field (count - i) rest)) where
   one_of : strings_field count start ≡ behind_texts texts (strings_field (suc (count - (i + 1))) rest)
-  one_of =
-      let left : count - i ≡ suc (count - (i + 1)) = omega (arith, lt) in
-      so_far ∙ ap (λ (n : ℕ). behind_texts texts (strings_field n rest)) left
+  one_of = let left : count - i ≡ suc (count - (i + 1)) = omega (arith, lt) in rw left at so_far
 
   pub read_more : (text rest' : List ℕ) → string_field rest ≡ Some (text, rest') → strings_field count start ≡ behind_texts (texts ++ text ∷ []) (strings_field (count - (i + 1)) rest')
-  read_more text rest' first =
-      one_of ∙ ap (λ (o : Option (List ℕ × List ℕ)). behind_texts texts (option_and_then (λ p. option_map (text_first p.0) (strings_field (count - (i + 1)) p.1)) o)) first
-      ∙ one_behind texts text (strings_field (count - (i + 1)) rest')
+  read_more text rest' first = one_of ∙ rw first (one_behind texts text (strings_field (count - (i + 1)) rest'))
 
   pub read_broken : (e : FieldFault) (rest' after : List ℕ) → IsField {A = List ℕ} (Err e) (string_field rest) rest' → IsField {A = List (List ℕ)} (Err e) (strings_field count start) after
-  read_broken Broken rest' after none = one_of ∙ ap (λ (o : Option (List ℕ × List ℕ)). behind_texts texts (option_and_then (λ p. option_map (text_first p.0) (strings_field (count - (i + 1)) p.1)) o)) none
+  read_broken Broken rest' after none = one_of ∙ rw none refl
   read_broken NoMemory rest' after none = tt
 
 pub read_all : (count i : ℕ) (start rest : List ℕ) (texts : List (List ℕ)) → count ≤ i → strings_field count start ≡ behind_texts texts (strings_field (count - i) rest) → strings_field count start ≡ Some (texts, rest)
 read_all count i start rest texts le so_far =
     let none : count - i ≡ 0 = omega (arith, le) in
-    so_far ∙ ap (λ (n : ℕ). behind_texts texts (strings_field n rest)) none ∙ ap (λ (l : List (List ℕ)). Some (l, rest)) (append-nil texts)
+    so_far ∙ rw (none, append-nil texts) refl

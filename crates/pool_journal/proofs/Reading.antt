@@ -1,9 +1,10 @@
 -- Reading a journal's records one by one.
-use Rattle.pool_journal.proofs.Common.{◌≡◌, ◌≢◌, ℕ, suc, ◌+◌, ◌-◌, ◌<◌, ◌^◌, List, [], ◌∷◌, ◌++◌, length, take, drop, get_or, Bool, true, false, refl, sym, ◌∙◌, ap, subst, arith, append_assoc, length-append, Some, None, Option, nat_eq, nat_lt, if◌then◌else◌, starts_with, Decides-eqb, from_be_bytes-to_be_bytes_4, w32, to_be_bytes, from_be_bytes}
+use Rattle.pool_journal.proofs.Common.{◌≡◌, ◌≢◌, ℕ, suc, ◌+◌, ◌-◌, ◌<◌, ◌^◌, List, [], ◌∷◌, ◌++◌, length, take, drop, get_or, true, refl, sym, ◌∙◌, ap, arith, length-append, Some, None, nat_eq, nat_lt, starts_with, Decides-eqb, from_be_bytes-to_be_bytes_4, w32, to_be_bytes, from_be_bytes}
 use Rattle.std.proofs.lemmas.List.{take_all, take_at, map-append}
+use Rattle.std.proofs.lemmas.Bool.{cond_both}
 use Rattle.std.proofs.lemmas.Slice.Eq.{starts_is}
-use Rattle.pool_journal.specs.Entries.{Record, record_of}
-use Rattle.pool_journal.specs.Records.{header, Found, Reading, broken, records, with_record, reading, placed, placed_of, spelled, AllSmall, Spell, Holds, IsToldOf, Placed}
+use Rattle.pool_journal.specs.Entries.{record_of}
+use Rattle.pool_journal.specs.Records.{header, Found, broken, records, reading, placed, placed_of, spelled, AllSmall, Spell, Holds, IsToldOf, Placed}
 use Rattle.pool_journal.proofs.Bytes.{AtRecord, reads, broken_at, spelled-one, Spell-push}
 
 pub cons_of : (rest : List ℕ) (g : ℕ) → 0 < length rest → get_or rest 0 0 ≡ g → rest ≡ g ∷ take (length rest - 1) (drop 1 rest)
@@ -24,13 +25,13 @@ told_found bytes bodies fs rest entries is spell small entries_are some shut =
       spell = spell;
       end_is = omega (arith, ap length is, length-append (header ++ spelled bodies) rest);
     } in
-    subst (λ (r : Reading). IsToldOf bytes r entries (length bytes - length rest) None) (sym (reads bytes fs _ holds)) (entries_are, holds)
+    rw (reads bytes fs _ holds) (entries_are, holds)
 
 -- at a broken record those before it are read
 pub told_broken : (bytes : List ℕ) (bodies : List (List ℕ)) (fs : List Found) (rest : List ℕ) (entries : List Placed) → bytes ≡ header ++ spelled bodies ++ rest → Spell 16 bodies fs → AllSmall bodies → entries ≡ placed fs → 0 < length rest → 17 < length bytes
     → ((n at : ℕ) → records (suc n) at rest ≡ broken [] at) → IsToldOf bytes (reading bytes) entries (length bytes - length rest) (Some (length bytes - length rest))
 told_broken bytes bodies fs rest entries is spell small entries_are some long none =
-    subst (λ (r : Reading). IsToldOf bytes r entries (length bytes - length rest) (Some (length bytes - length rest))) (sym (broken_at bytes bodies fs rest is spell small some long none)) (entries_are, refl)
+    rw (broken_at bytes bodies fs rest is spell small some long none) (entries_are, refl)
 
 -- a record at an open gate that isn't all there
 pub cut_short : (rest : List ℕ) → 0 < length rest → get_or rest 0 0 ≡ 165 → ((n at : ℕ) → records (suc n) at (165 ∷ take (length rest - 1) (drop 1 rest)) ≡ broken [] at) → (n at : ℕ) → records (suc n) at rest ≡ broken [] at
@@ -38,27 +39,21 @@ cut_short rest some open_gate none n at = ap (λ (l : List ℕ). records (suc n)
 
 -- a record at an open gate whose body spells none
 none_of : (n at size : ℕ) (after : List ℕ) → record_of (take size (drop 4 after)) ≡ None → AtRecord n at size after ≡ broken [] at
-none_of n at size after none = at_test (nat_lt (4 + size) (length after))
-  where
-    at_test : (b : Bool) → (if b then with_record at size (record_of (take size (drop 4 after))) (records n (at + 5 + size) (drop (4 + size) after)) else broken [] at) ≡ broken [] at
-    at_test true = ap (λ (o : Option Record). with_record at size o (records n (at + 5 + size) (drop (4 + size) after))) none
-    at_test false = refl
+none_of n at size after none = rw none (cond_both (nat_lt (4 + size) (length after)) (broken [] at) (broken [] at) (λ r. r ≡ broken [] at) (λ long. refl) (λ short. refl))
 
 pub spells_none : (rest after body next : List ℕ) → rest ≡ 165 ∷ after → after ≡ to_be_bytes w32 (length body) ++ body ++ next → length body < 2 ^ 32 → record_of body ≡ None → (n at : ℕ) → records (suc n) at rest ≡ broken [] at
 spells_none rest after body next rest_is after_is fits none n at =
     let whole : List ℕ = to_be_bytes w32 (length body) ++ body ++ next in
     let size : from_be_bytes w32 (take 4 whole) ≡ length body = from_be_bytes-to_be_bytes_4 (length body) fits in
-    let inside : take (length body) (drop 4 whole) ≡ body = take_at body next (length body) refl in
-    let here : AtRecord n at (length body) whole ≡ broken [] at = none_of n at (length body) whole (ap record_of inside ∙ none) in
-    ap (λ (l : List ℕ). records (suc n) at l) (rest_is ∙ ap (λ (l : List ℕ). 165 ∷ l) after_is) ∙ subst (λ (k : ℕ). AtRecord n at k whole ≡ broken [] at) (sym size) here
+    let here : AtRecord n at (length body) whole ≡ broken [] at = none_of n at (length body) whole (ap record_of (take_at body next (length body) refl) ∙ none) in
+    rw (rest_is, after_is, size) here
 
 -- one record more was read
 pub one_more : (bytes : List ℕ) (bodies : List (List ℕ)) (body rest after next : List ℕ) → bytes ≡ header ++ spelled bodies ++ rest → rest ≡ 165 ∷ after → after ≡ to_be_bytes w32 (length body) ++ body ++ next
     → bytes ≡ header ++ spelled (bodies ++ body ∷ []) ++ next
 one_more bytes bodies body rest after next is rest_is after_is =
     is ∙ ap (λ (l : List ℕ). header ++ spelled bodies ++ l) (rest_is ∙ ap (λ (l : List ℕ). 165 ∷ l) after_is)
-    ∙ append_assoc header (spelled bodies) (165 ∷ (to_be_bytes w32 (length body) ++ body ++ next)) ∙ ap (λ (l : List ℕ). header ++ l) (sym (spelled-one bodies body next))
-    ∙ sym (append_assoc header (spelled (bodies ++ body ∷ [])) next)
+    ∙ ap (λ (l : List ℕ). header ++ l) (sym (spelled-one bodies body next))
 
 pub one_more_spelled : (bytes : List ℕ) (bodies : List (List ℕ)) (fs : List Found) (body rest : List ℕ) (f : Found) (size : ℕ) → bytes ≡ header ++ spelled bodies ++ rest → Spell 16 bodies fs → f.at ≡ length bytes - length rest → f.from ≡ f.at + 5 + size
     → size + length f.is.bytes ≡ length body → record_of body ≡ Some f.is → Spell 16 (bodies ++ body ∷ []) (fs ++ f ∷ [])
