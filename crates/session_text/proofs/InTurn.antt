@@ -4,53 +4,33 @@ use Rattle.session_text.specs.Turns.{Turn, request, broken, line_limit, line_end
 use Rattle.session_text.specs.Session.{turn_asked, IsNext, IsWhole, IsInTurn, IsCut}
 use Rattle.session_text.specs.declared.session.Next.{Next}
 use Rattle.session_text.specs.declared.session.Next.TheVariants.{Request, Last, Broken, End, Failed, NoMemory}
+use Rattle.std.proofs.lemmas.Option.{same_Some}
 use Rattle.session_text.proofs.Lines.{line_end-within}
 
-abbrev found : Turn → List ℕ → Option (Turn × List ℕ)
-found turn rest = Some (turn, rest)
-
-abbrev turn_in : Option (Turn × List ℕ) → Turn
-turn_in None = broken 0
-turn_in (Some taken) = taken.0
-
-abbrev rest_in : Option (Turn × List ℕ) → List ℕ
-rest_in None = []
-rest_in (Some taken) = taken.1
-
 -- a turn behind a test is the one that was taken
-chosen_turn : (test : Bool) (turn asked : Turn) (left rest : List ℕ) → (if test then found turn left else None) ≡ found asked rest → (turn ≡ asked) × (left ≡ rest)
-chosen_turn true turn asked left rest is = (ap turn_in is, ap rest_in is)
-chosen_turn false turn asked left rest is = absurd (cc is)
-
-no_fault : (index : ℕ) (words : List (List ℕ)) (payload : List ℕ) → broken index ≡ request words payload → ⊥
-no_fault index words payload is = cc is
+chosen_turn : (test : Bool) (x y : Turn × List ℕ) → (if test then Some x else None) ≡ Some y → (x.0 ≡ y.0) × (x.1 ≡ y.1)
+chosen_turn true x y is = (ap (λ (p : Turn × List ℕ). p.0) (same_Some x y is), ap (λ (p : Turn × List ℕ). p.1) (same_Some x y is))
+chosen_turn false x y is = absurd (cc is)
 
 sized_shortens : (text : List ℕ) (words : List (List ℕ)) (payload rest : List ℕ) (end : ℕ) (size : Option ℕ) → end < length text → cut_payload (words_before end text) size (drop (end + 1) text) ≡ Some (request words payload, rest) → length rest < length text
-sized_shortens text words payload rest end None within is = absurd (no_fault _ words payload (ap turn_in is))
+sized_shortens text words payload rest end None within is = absurd (cc (ap (λ (p : Turn × List ℕ). p.0) (same_Some _ _ is)))
 sized_shortens text words payload rest end (Some size) within is =
-    let left : length (drop size (drop (end + 1) text)) ≡ length rest = ap (λ (l : List ℕ). length l) (chosen_turn (nat_le size (length (drop (end + 1) text))) _ (request words payload) _ rest is).1 in
+    let left : length (drop size (drop (end + 1) text)) ≡ length rest = ap (λ (l : List ℕ). length l) (chosen_turn (nat_le size (length (drop (end + 1) text))) _ (request words payload, rest) is).1 in
     omega (arith, within, left, length-drop size (drop (end + 1) text), length-drop (end + 1) text)
 
 line_shortens : (text : List ℕ) (words : List (List ℕ)) (payload rest : List ℕ) (end : Option ℕ) → line_end text ≡ end → turn_at end text ≡ Some (request words payload, rest) → length rest < length text
-line_shortens text words payload rest None ends is = absurd (no_fault 0 words payload (chosen_turn (nat_lt line_limit (length text)) _ (request words payload) _ rest is).0)
+line_shortens text words payload rest None ends is = absurd (cc (chosen_turn (nat_lt line_limit (length text)) _ (request words payload, rest) is).0)
 line_shortens text words payload rest (Some end) ends is = sized_shortens text words payload rest end (payload_size (words_before end text)) (line_end-within text end ends) is
 
-whole_shortens : (text : List ℕ) (words : List (List ℕ)) (payload rest : List ℕ) → whole_turn text ≡ Some (request words payload, rest) → length rest < length text
-whole_shortens text words payload rest is = line_shortens text words payload rest (line_end text) refl is
-
-abbrev alone : Turn → Turn × List ℕ
-alone turn = (turn, [])
-
-last_shortens : (text : List ℕ) (words : List (List ℕ)) (payload rest : List ℕ) → option_map alone (last_turn text) ≡ Some (request words payload, rest) → length rest < length text
+last_shortens : (text : List ℕ) (words : List (List ℕ)) (payload rest : List ℕ) → or_last None text ≡ Some (request words payload, rest) → length rest < length text
 last_shortens [] words payload rest is = absurd (cc is)
 last_shortens (byte ∷ text) words payload rest is =
-    let none : [] ≡ rest = ap rest_in is in
-    let empty : length rest ≡ 0 = ap (λ (l : List ℕ). length l) (sym none) in
-    omega arith
+    let none : [] ≡ rest = ap (λ (p : Turn × List ℕ). p.1) (same_Some _ _ is) in
+    rw (← none) (omega arith)
 
 first_shortens_at : (text : List ℕ) (words : List (List ℕ)) (payload rest : List ℕ) (turn : Option (Turn × List ℕ)) → whole_turn text ≡ turn → or_last turn text ≡ Some (request words payload, rest) → length rest < length text
 first_shortens_at text words payload rest None whole is = last_shortens text words payload rest is
-first_shortens_at text words payload rest (Some turn) whole is = whole_shortens text words payload rest (whole ∙ is)
+first_shortens_at text words payload rest (Some turn) whole is = line_shortens text words payload rest (line_end text) refl (whole ∙ is)
 
 first_shortens : (text : List ℕ) (words : List (List ℕ)) (payload rest : List ℕ) → first_turn text ≡ Some (request words payload, rest) → length rest < length text
 first_shortens text words payload rest is = first_shortens_at text words payload rest (whole_turn text) refl is

@@ -1,9 +1,8 @@
 -- Whole turns, and those that are cut off.
-use Rattle.std.proofs.Common.{◌≡◌, ◌<◌, ◌≤◌, ◌+◌, ℕ, zero, suc, min, List, [], ◌∷◌, ◌++◌, length, take, drop, true, false, refl, sym, ◌∙◌, ap, subst, ◌⊎◌, arith, append_assoc, length-append, length-take, take-append-drop, inl, inr, option_map, Option, Some, None, nat_lt, nat_le}
+use Rattle.std.proofs.Common.{◌≡◌, ◌<◌, ◌≤◌, ◌+◌, ℕ, zero, suc, min, List, [], ◌∷◌, ◌++◌, length, take, drop, refl, sym, ◌∙◌, ap, subst, arith, append_assoc, length-append, length-take, take-append-drop, inl, inr, option_map, Option, Some, None}
 use Rattle.std.proofs.lemmas.List.{take_all, drop_all, take_at, drop_at, take-take, take-append-le, drop-append-le, drop-drop, append-nil, length-take-le, drop_min}
-use Rattle.std.proofs.lemmas.Bool.{cases_lt, cond-true, cond-false}
-use Rattle.std.proofs.lemmas.Bool.Decides.{nat_tests}
-use Rattle.session_text.specs.Turns.{Turn, request, broken, line_limit, line_end, words_of, without_return, words_before, payload_size, asked_words, last_index, cut_payload, turn_of, turn_at, whole_turn, last_turn, or_last, cut_off, turn_without_end}
+use Rattle.std.proofs.lemmas.Bool.{cases_lt, le-leb, lt-leb, lt-ltb, le-ltb}
+use Rattle.session_text.specs.Turns.{Turn, request, broken, line_limit, line_end, words_of, without_return, words_before, payload_size, asked_words, last_index, turn_of, turn_at, whole_turn, last_turn, or_last, cut_off, turn_without_end}
 use Rattle.session_text.specs.Session.{BreaksAt, IsCut, IsLast}
 use Rattle.session_text.specs.declared.session.Next.{Next}
 use Rattle.session_text.specs.declared.session.Next.TheVariants.{Request, Last, Broken, End, Failed, NoMemory}
@@ -17,16 +16,6 @@ same_parts a b c d long is = (
   sym (drop_at a b (length a) refl) ∙ (λ i. drop (length a) (is i)) ∙ drop_at c d (length a) (sym long),
 )
 
-pub cut_payload-whole : (words : List (List ℕ)) (size : ℕ) (text : List ℕ) → size ≤ length text → cut_payload words (Some size) text ≡ Some (request (asked_words words) (take size text), drop size text)
-cut_payload-whole words size text le =
-    let test : nat_le size (length text) ≡ true = grind (arith, nat_tests) in
-    cond-true _ _ _ test
-
-pub cut_payload-short : (words : List (List ℕ)) (size : ℕ) (text : List ℕ) → length text < size → cut_payload words (Some size) text ≡ None
-cut_payload-short words size text lt =
-    let test : nat_le size (length text) ≡ false = grind (arith, nat_tests) in
-    cond-false _ _ _ test
-
 pub words_before-more : (end : ℕ) (xs ys : List ℕ) → end ≤ length xs → words_before end (xs ++ ys) ≡ words_before end xs
 words_before-more end xs ys le = ap (λ (l : List ℕ). words_of (without_return l)) (take-append-le end xs ys le)
 
@@ -37,39 +26,23 @@ whole_turn-line xs ys end is =
     ap (λ (o : Option ℕ). turn_at o (xs ++ ys)) (line_end-more xs ys end is)
     ∙ (λ i. turn_of (words_before-more end xs ys (omega arith) i) (drop-append-le (end + 1) xs ys (omega arith) i))
 
-pub turn_of-sized : (words : List (List ℕ)) (size : Option ℕ) (text : List ℕ) → payload_size words ≡ size → turn_of words text ≡ cut_payload words size text
-turn_of-sized words size text is = ap (λ (o : Option ℕ). cut_payload words o text) is
-
 -- a payload that has its size: it began with the front of what stood ahead, and is what was read
 pub taken : (size : ℕ) (ahead left rest payload : List ℕ) → length payload ≡ size → take size ahead ++ left ≡ payload ++ rest → (size ≤ length (ahead ++ left)) × (take size (ahead ++ left) ≡ payload) × (drop size (ahead ++ left) ≡ drop size ahead ++ rest)
-taken size ahead left rest payload long is = by (cases_lt (length ahead) size)
-  where
-    by : (length ahead < size) ⊎ (size ≤ length ahead) → (size ≤ length (ahead ++ left)) × (take size (ahead ++ left) ≡ payload) × (drop size (ahead ++ left) ≡ drop size ahead ++ rest)
-    by (inl lt) =
-        let all : ahead ++ left ≡ payload ++ rest = ap (λ (l : List ℕ). l ++ left) (sym (take_all size ahead (omega arith))) ∙ is in
-        let none : drop size ahead ≡ [] = drop_all size ahead (omega arith) in
-        let count : length (ahead ++ left) ≡ length payload + length rest = ap (λ (l : List ℕ). length l) all ∙ length-append payload rest in (
-          omega arith,
-          ap (λ (l : List ℕ). take size l) all ∙ take_at payload rest size long,
-          ap (λ (l : List ℕ). drop size l) all ∙ drop_at payload rest size long ∙ ap (λ (l : List ℕ). l ++ rest) (sym none),
-        )
-    by (inr le) =
-        let both = same_parts (take size ahead) left payload rest (length-take-le size ahead le ∙ sym long) is in
-        let count : length (ahead ++ left) ≡ length ahead + length left = length-append ahead left in (
-          omega arith,
-          take-append-le size ahead left le ∙ both.0,
-          drop-append-le size ahead left le ∙ ap (λ (l : List ℕ). drop size ahead ++ l) both.1,
-        )
+taken size ahead left rest payload long is = elim (cases_lt (length ahead) size) [
+  | inl lt ↦
+      let all : ahead ++ left ≡ payload ++ rest = rw (take_all size ahead (omega arith)) at is in
+      rw (all, drop_all size ahead (omega arith)) (omega (arith, length-append payload rest), take_at payload rest size long, drop_at payload rest size long)
+  | inr le ↦
+      let both = same_parts (take size ahead) left payload rest (length-take-le size ahead le ∙ sym long) is in
+      (omega (arith, length-append ahead left), take-append-le size ahead left le ∙ both.0, rw (drop-append-le size ahead left le, both.1) refl)
+]
 
 -- a request is taken off the front of a text
 pub whole : (a left rest payload : List ℕ) (end size : ℕ) → line_end a ≡ Some end → payload_size (words_before end a) ≡ Some size → length payload ≡ size → take size (drop (end + 1) a) ++ left ≡ payload ++ rest
     → whole_turn (a ++ left) ≡ Some (request (asked_words (words_before end a)) payload, drop size (drop (end + 1) a) ++ rest)
 whole a left rest payload end size ends sized long is =
     let (fits, front, back) = taken size (drop (end + 1) a) left rest payload long is in
-    whole_turn-line a left end ends
-    ∙ turn_of-sized (words_before end a) (Some size) (drop (end + 1) a ++ left) sized
-    ∙ cut_payload-whole (words_before end a) size (drop (end + 1) a ++ left) fits
-    ∙ (λ i. Some (request (asked_words (words_before end a)) (front i), back i))
+    whole_turn-line a left end ends ∙ rw (sized, le-leb size (length (drop (end + 1) a ++ left)) fits, front, back) refl
 
 pub whole_held : (a left rest payload text held stalled : List ℕ) (words : List (List ℕ)) (end size : ℕ) → line_end a ≡ Some end → payload_size (words_before end a) ≡ Some size → length payload ≡ size → take size (drop (end + 1) a) ++ left ≡ payload ++ rest
     → words ≡ asked_words (words_before end a) → text ≡ payload → held ≡ drop (min (length a) (end + 1 + size)) a → stalled ≡ []
@@ -77,19 +50,14 @@ pub whole_held : (a left rest payload text held stalled : List ℕ) (words : Lis
 whole_held a left rest payload text held stalled words end size ends sized long is words_are text_is held_is none =
     let skipped : drop size (drop (end + 1) a) ≡ held = drop-drop size (end + 1) a ∙ sym (drop_min (end + 1 + size) a) ∙ ap (λ (n : ℕ). drop n a) (min_comm (end + 1 + size) (length a)) ∙ sym held_is in
     let all : drop size (drop (end + 1) a) ≡ held ++ stalled = skipped ∙ sym (append-nil held) ∙ ap (λ (l : List ℕ). held ++ l) (sym none) in
-    whole a left rest payload end size ends sized long is
-    ∙ (λ i. Some (request (sym words_are i) (sym text_is i), all i ++ rest))
+    rw (words_are, text_is, ← all) (whole a left rest payload end size ends sized long is)
 
 -- a payload that is cut off: no byte is lost
 pub kept_cut : (a left rest payload : List ℕ) (end size : ℕ) → length payload < size → length (take size (drop (end + 1) a)) ≤ length payload → take size (drop (end + 1) a) ++ left ≡ payload ++ rest
     → (take (end + 1) a ++ payload) ++ rest ≡ a ++ left
 kept_cut a left rest payload end size short grown is =
-    let count : length (take size (drop (end + 1) a)) ≡ min size (length (drop (end + 1) a)) = length-take size (drop (end + 1) a) in
-    let all : take size (drop (end + 1) a) ≡ drop (end + 1) a = take_all size (drop (end + 1) a) (omega arith) in
-    append_assoc (take (end + 1) a) payload rest
-    ∙ ap (λ (l : List ℕ). take (end + 1) a ++ l) (sym is ∙ ap (λ (l : List ℕ). l ++ left) all)
-    ∙ sym (append_assoc (take (end + 1) a) (drop (end + 1) a) left)
-    ∙ ap (λ (l : List ℕ). l ++ left) (take-append-drop (end + 1) a)
+    let all : take size (drop (end + 1) a) ≡ drop (end + 1) a = take_all size (drop (end + 1) a) (omega (arith, length-take size (drop (end + 1) a))) in
+    rw (append_assoc (take (end + 1) a) payload rest, ← is, all, ← append_assoc (take (end + 1) a) (drop (end + 1) a) left, take-append-drop (end + 1) a) refl
 
 -- a line, and a payload behind it
 pub line_end-cut : (a payload : List ℕ) (end : ℕ) → line_end a ≡ Some end → line_end (take (end + 1) a ++ payload) ≡ Some end
@@ -99,9 +67,7 @@ pub words_before-cut : (a : List ℕ) (end : ℕ) → words_before end (take (en
 words_before-cut a end = ap (λ (l : List ℕ). words_of (without_return l)) (take-take end (end + 1) a (omega arith))
 
 pub behind_cut : (a payload : List ℕ) (end : ℕ) → drop (end + 1) (take (end + 1) a) ++ payload ≡ payload
-behind_cut a payload end =
-    let count : length (take (end + 1) a) ≡ min (end + 1) (length a) = length-take (end + 1) a in
-    ap (λ (l : List ℕ). l ++ payload) (drop_all (end + 1) (take (end + 1) a) (omega arith))
+behind_cut a payload end = ap (λ (l : List ℕ). l ++ payload) (drop_all (end + 1) (take (end + 1) a) (omega (arith, length-take (end + 1) a)))
 
 pub whole_turn-cut : (a payload : List ℕ) (end : ℕ) → line_end a ≡ Some end → whole_turn (take (end + 1) a ++ payload) ≡ turn_of (words_before end a) payload
 whole_turn-cut a payload end ends =
@@ -110,7 +76,7 @@ whole_turn-cut a payload end ends =
 
 pub none_cut : (a payload : List ℕ) (end size : ℕ) → line_end a ≡ Some end → payload_size (words_before end a) ≡ Some size → length payload < size → whole_turn (take (end + 1) a ++ payload) ≡ None
 none_cut a payload end size ends sized short =
-    whole_turn-cut a payload end ends ∙ turn_of-sized (words_before end a) (Some size) payload sized ∙ cut_payload-short (words_before end a) size payload short
+    whole_turn-cut a payload end ends ∙ rw (sized, lt-leb size (length payload) short) refl
 
 -- faults in the framing
 pub breaks_last : (text : List ℕ) (index : ℕ) → whole_turn text ≡ None → last_turn text ≡ Some (broken index) → BreaksAt text index
@@ -125,37 +91,26 @@ last_turn-line (byte ∷ text) end ends = ap (λ (o : Option ℕ). Some (cut_off
 
 pub breaks_cut : (a payload : List ℕ) (end size index : ℕ) → line_end a ≡ Some end → payload_size (words_before end a) ≡ Some size → length payload < size → index ≡ last_index (words_before end a) → BreaksAt (take (end + 1) a ++ payload) index
 breaks_cut a payload end size index ends sized short is =
+    let within : end < length (take (end + 1) a) = line_end-within (take (end + 1) a) end (line_end-take (end + 1) a end (omega arith) ends) in
+    let front = words_before-more end (take (end + 1) a) payload (omega arith) ∙ words_before-cut a end in
     breaks_last (take (end + 1) a ++ payload) index (none_cut a payload end size ends sized short)
-    (last_turn-line (take (end + 1) a ++ payload) end (line_end-cut a payload end ends)
-    ∙ ap (λ (words : List (List ℕ)). Some (broken (last_index words))) (front ∙ words_before-cut a end)
-    ∙ ap (λ (n : ℕ). Some (broken n)) (sym is))
-  where
-    front : words_before end (take (end + 1) a ++ payload) ≡ words_before end (take (end + 1) a)
-    front =
-        let within : end < length (take (end + 1) a) = line_end-within (take (end + 1) a) end (line_end-take (end + 1) a end (omega arith) ends) in
-        words_before-more end (take (end + 1) a) payload (omega arith)
+    (last_turn-line (take (end + 1) a ++ payload) end (line_end-cut a payload end ends) ∙ rw (front, is) refl)
 
 pub breaks_word : (a left : List ℕ) (end index : ℕ) → line_end a ≡ Some end → payload_size (words_before end a) ≡ None → index ≡ last_index (words_before end a) → BreaksAt (a ++ left) index
 breaks_word a left end index ends bad is =
-    breaks_whole (a ++ left) index (drop (end + 1) a ++ left)
-    (whole_turn-line a left end ends ∙ turn_of-sized (words_before end a) None (drop (end + 1) a ++ left) bad ∙ ap (λ (n : ℕ). Some (broken n, drop (end + 1) a ++ left)) (sym is))
+    breaks_whole (a ++ left) index (drop (end + 1) a ++ left) (whole_turn-line a left end ends ∙ rw (bad, is) refl)
 
 pub breaks_long : (a left : List ℕ) → line_end a ≡ None → line_limit < length a → BreaksAt (a ++ left) 0
 breaks_long a left none long =
-    let count : length (a ++ left) ≡ length a + length left = length-append a left in
-    let test : nat_lt line_limit (length (a ++ left)) ≡ true = grind (arith, nat_tests) in
-    breaks_whole (a ++ left) 0 (a ++ left) (ap (λ (o : Option ℕ). turn_at o (a ++ left)) (line_end-long a left none long) ∙ cond-true _ _ _ test)
+    breaks_whole (a ++ left) 0 (a ++ left) (rw (line_end-long a left none long, lt-ltb line_limit (length (a ++ left)) (omega (arith, length-append a left))) refl)
 
 -- a text without a whole line that isn't too long
 pub none_open : (a : List ℕ) → line_end a ≡ None → length a ≤ line_limit → whole_turn a ≡ None
-none_open a none short =
-    let test : nat_lt line_limit (length a) ≡ false = grind (arith, nat_tests) in
-    ap (λ (o : Option ℕ). turn_at o a) none ∙ cond-false _ _ _ test
+none_open a none short = rw (none, le-ltb line_limit (length a) short) refl
 
 pub last_turn-open : (text : List ℕ) (size : Option ℕ) → 0 < length text → line_end text ≡ None → payload_size (words_of text) ≡ size → last_turn text ≡ Some (turn_without_end (words_of text) size)
 last_turn-open [] size some none sized = absurd (omega (arith, some))
-last_turn-open (byte ∷ text) size some none sized =
-    ap (λ (o : Option ℕ). Some (cut_off o (byte ∷ text))) none ∙ ap (λ (o : Option ℕ). Some (turn_without_end (words_of (byte ∷ text)) o)) sized
+last_turn-open (byte ∷ text) size some none sized = rw (none, sized) refl
 
 -- the end of the source
 ended_here : (a held : List ℕ) (next : Next) → whole_turn a ≡ None → IsLast a next held → IsCut a next held []
@@ -170,18 +125,13 @@ ended_here a held NoMemory none last = append-nil held ∙ last
 
 pub ended : (text a left held stalled : List ℕ) (next : Next) → text ≡ a ++ left → left ≡ [] → stalled ≡ [] → line_end a ≡ None → length a ≤ line_limit → IsLast a next held → IsCut text next (held ++ stalled) left
 ended text a left held stalled next text_is left_is none unended short last =
-    let here : text ≡ a = text_is ∙ ap (λ (l : List ℕ). a ++ l) left_is ∙ append-nil a in
-    let same : held ++ stalled ≡ held = ap (λ (l : List ℕ). held ++ l) none ∙ append-nil held in
-    subst (λ (t : List ℕ). IsCut t next (held ++ stalled) left) (sym here)
-    (subst (λ (t : List ℕ). IsCut a next t left) (sym same)
-    (subst (λ (t : List ℕ). IsCut a next held t) (sym left_is) (ended_here a held next (none_open a unended short) last)))
+    rw (text_is, left_is, none, append-nil a, append-nil held) (ended_here a held next (none_open a unended short) last)
 
 -- what a last line says
 pub last_request : (text bytes payload : List ℕ) (words : List (List ℕ)) (size : ℕ) → bytes ≡ text → 0 < length text → line_end text ≡ None → words ≡ asked_words (words_of bytes) → payload_size (words_of bytes) ≡ Some size → size ≡ 0 → payload ≡ []
     → last_turn text ≡ Some (request words payload)
 last_request text bytes payload words size same some none words_are sized zero_is empty =
-    last_turn-open text (Some 0) some none (ap (λ (l : List ℕ). payload_size (words_of l)) (sym same) ∙ sized ∙ ap (λ (n : ℕ). Some n) zero_is)
-    ∙ (λ i. Some (request ((ap (λ (l : List ℕ). asked_words (words_of l)) (sym same) ∙ sym words_are) i) (sym empty i)))
+    last_turn-open text (Some 0) some none (rw (same, zero_is) at sized) ∙ rw (words_are, same, empty) refl
 
 cut_at : (words : List (List ℕ)) (size : ℕ) → (size ≡ 0 → ⊥) → turn_without_end words (Some size) ≡ broken (last_index words)
 cut_at words zero more = absurd (more refl)
@@ -189,13 +139,8 @@ cut_at words (suc size) more = refl
 
 pub last_cut : (text bytes : List ℕ) (size index : ℕ) → bytes ≡ text → 0 < length text → line_end text ≡ None → payload_size (words_of bytes) ≡ Some size → (size ≡ 0 → ⊥) → index ≡ last_index (words_of bytes) → last_turn text ≡ Some (broken index)
 last_cut text bytes size index same some none sized more is =
-    last_turn-open text (Some size) some none (ap (λ (l : List ℕ). payload_size (words_of l)) (sym same) ∙ sized)
-    ∙ ap (λ (turn : Turn). Some turn) (cut_at (words_of text) size more)
-    ∙ ap (λ (l : List ℕ). Some (broken (last_index (words_of l)))) (sym same)
-    ∙ ap (λ (n : ℕ). Some (broken n)) (sym is)
+    last_turn-open text (Some size) some none (rw same at sized) ∙ rw (cut_at (words_of text) size more, is, same) refl
 
 pub last_bad : (text bytes : List ℕ) (index : ℕ) → bytes ≡ text → 0 < length text → line_end text ≡ None → payload_size (words_of bytes) ≡ None → index ≡ last_index (words_of bytes) → last_turn text ≡ Some (broken index)
 last_bad text bytes index same some none sized is =
-    last_turn-open text None some none (ap (λ (l : List ℕ). payload_size (words_of l)) (sym same) ∙ sized)
-    ∙ ap (λ (l : List ℕ). Some (broken (last_index (words_of l)))) (sym same)
-    ∙ ap (λ (n : ℕ). Some (broken n)) (sym is)
+    last_turn-open text None some none (rw same at sized) ∙ rw (is, same) refl

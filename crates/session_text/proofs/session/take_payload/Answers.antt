@@ -1,7 +1,6 @@
 use Rattle.std.proofs.Common.{min, refl, arith, ◌≡◌, ◌∙◌, ◌≤◌, ◌+◌, ◌++◌, ℕ, List, length, take, drop, ap, sym, subst, append-nil}
 use Rattle.std.proofs.lemmas.Grind.{common_steps}
 use Rattle.session_text.specs.Session.{BreaksAt}
-use Rattle.session_text.specs.Turns.{whole_turn}
 use Rattle.session_text.proofs.Wholes.{whole_held, kept_cut, breaks_cut, none_cut}
 use Rattle.session_text.proofs.session.take_payload.Goals as goal
 
@@ -17,21 +16,17 @@ returns-in-Ended-clause-cut g c told =
     let front : c.in-Ok.payload.items ≡ take c.args.line.size (drop (c.args.end + 1) c.args.ahead.now) = grind (arith, common_steps) in
     let kept : take c.args.line.size (drop (c.args.end + 1) c.args.ahead.now) ++ (g.S.Source.input c.args.source.now).left ≡ c.fill.new.payload.items ++ (g.S.Source.input c.fill.new.source).left = ap (λ (l : List ℕ). l ++ (g.S.Source.input c.args.source.now).left) (sym front) ∙ sym (c.in-Ended.ensures.kept told) in
     let grown : length (take c.args.line.size (drop (c.args.end + 1) c.args.ahead.now)) ≤ length c.fill.new.payload.items = omega (arith, ap length front, c.in-Ended.ensures.grown) in
-    let held : c.truncate.new.self ++ c.fill.new.payload.items ≡ take (c.args.end + 1) c.args.ahead.now ++ c.fill.new.payload.items = ap (λ (l : List ℕ). l ++ c.fill.new.payload.items) c.truncate.ensures in
-    let all = ap (λ (l : List ℕ). l ++ (g.S.Source.input c.fill.new.source).left) held ∙ kept_cut c.args.ahead.now _ _ c.fill.new.payload.items c.args.end c.args.line.size c.in-Ended.ensures.filled grown kept in
-    let end = ap (λ (l : List ℕ). (c.truncate.new.self ++ c.fill.new.payload.items) ++ l) (c.in-Ended.ensures.ended told refl) ∙ append-nil (c.truncate.new.self ++ c.fill.new.payload.items) in
-    let breaks = breaks_cut c.args.ahead.now c.fill.new.payload.items c.args.end c.args.line.size c.args.line.index c.requires.ends c.requires.size c.in-Ended.ensures.filled c.requires.index in (
-      all,
-      subst (λ (l : List ℕ). BreaksAt l c.args.line.index) (sym held ∙ sym end ∙ all) breaks,
-      subst (λ (l : List ℕ). BreaksAt l c.args.line.index) (sym held) breaks,
-    )
+    let all = kept_cut c.args.ahead.now _ _ c.fill.new.payload.items c.args.end c.args.line.size c.in-Ended.ensures.filled grown kept in
+    let end = rw (c.in-Ended.ensures.ended told refl, append-nil (take (c.args.end + 1) c.args.ahead.now ++ c.fill.new.payload.items)) at all in
+    let breaks = breaks_cut c.args.ahead.now c.fill.new.payload.items c.args.end c.args.line.size c.args.line.index c.requires.ends c.requires.size c.in-Ended.ensures.filled c.requires.index in
+    rw c.truncate.ensures (all, subst (λ (l : List ℕ). BreaksAt l c.args.line.index) end breaks, breaks)
 
 pub returns-in-Failed-clause-cut : goal.returns-in-Failed-clause-cut
 returns-in-Failed-clause-cut g c told =
     let front : c.in-Ok.payload.items ≡ take c.args.line.size (drop (c.args.end + 1) c.args.ahead.now) = grind (arith, common_steps) in
     let kept : take c.args.line.size (drop (c.args.end + 1) c.args.ahead.now) ++ (g.S.Source.input c.args.source.now).left ≡ c.fill.new.payload.items ++ (g.S.Source.input c.fill.new.source).left = ap (λ (l : List ℕ). l ++ (g.S.Source.input c.args.source.now).left) (sym front) ∙ sym (c.in-Failed.ensures.kept told) in
     let grown : length (take c.args.line.size (drop (c.args.end + 1) c.args.ahead.now)) ≤ length c.fill.new.payload.items = omega (arith, ap length front, c.in-Failed.ensures.grown) in
-    let held : c.truncate-in-Failed.new.self ++ c.fill.new.payload.items ≡ take (c.args.end + 1) c.args.ahead.now ++ c.fill.new.payload.items = ap (λ (l : List ℕ). l ++ c.fill.new.payload.items) c.truncate-in-Failed.ensures in (
-      ap (λ (l : List ℕ). l ++ (g.S.Source.input c.fill.new.source).left) held ∙ kept_cut c.args.ahead.now _ _ c.fill.new.payload.items c.args.end c.args.line.size c.in-Failed.ensures.filled grown kept,
-      ap whole_turn held ∙ none_cut c.args.ahead.now c.fill.new.payload.items c.args.end c.args.line.size c.requires.ends c.requires.size c.in-Failed.ensures.filled,
+    rw c.truncate-in-Failed.ensures (
+      kept_cut c.args.ahead.now _ _ c.fill.new.payload.items c.args.end c.args.line.size c.in-Failed.ensures.filled grown kept,
+      none_cut c.args.ahead.now c.fill.new.payload.items c.args.end c.args.line.size c.requires.ends c.requires.size c.in-Failed.ensures.filled,
     )

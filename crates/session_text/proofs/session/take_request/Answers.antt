@@ -1,4 +1,4 @@
-use Rattle.std.proofs.Common.{◌≡◌, ◌∙◌, ◌++◌, ℕ, List, ap, sym, take, append-nil}
+use Rattle.std.proofs.Common.{◌≡◌, refl, ◌∙◌, ap, sym, take, append-nil}
 use Rattle.session_text.specs.Turns.{payload_size, last_index, words_of, words_before, without_return}
 use Rattle.session_text.proofs.Wholes.{breaks_word}
 use Rattle.session_text.proofs.session.take_request.Goals as goal
@@ -6,11 +6,11 @@ use Rattle.session_text.proofs.session.take_request.Goals as goal
 pub returns-in-Err-Bad-clause-cut : goal.returns-in-Err-Bad-clause-cut
 returns-in-Err-Bad-clause-cut g c told =
     let (bad, index) = rw c.in-Err-Bad.field-0-is at c.in-Err-Bad.ensures.read in
-    let cut : c.cut_return.result.now ≡ without_return (take c.args.end c.args.ahead.now) = c.cut_return.ensures ∙ ap (λ (l : List ℕ). without_return (take c.args.end l)) c.bytes.ensures in
+    let cut : c.cut_return.result.now ≡ without_return (take c.args.end c.args.ahead.now) = rw c.bytes.ensures at c.cut_return.ensures in
     let words : words_of c.cut_return.result.now ≡ words_before c.args.end c.args.ahead.now = ap words_of cut in
     let bad_here = ap payload_size (sym words) ∙ bad in
     let index_is = c.in-Err-Bad.index-is ∙ index ∙ ap last_index words in (
-      ap (λ (l : List ℕ). l ++ (g.S.Source.input c.args.source.now).left) (ap (λ (l : List ℕ). c.args.ahead.now ++ l) c.requires.new ∙ append-nil c.args.ahead.now),
+      rw (c.requires.new, append-nil c.args.ahead.now) refl,
       breaks_word c.args.ahead.now _ c.args.end _ c.requires.ends bad_here index_is,
       breaks_word c.args.ahead.now _ c.args.end _ c.requires.ends bad_here index_is,
     )
