@@ -19,23 +19,8 @@ months_within_is : (y : ℤ) (n k days : ℕ) → k ≤ n → days_of_months y k
 unfolding months_within
 months_within_is y zero k days h a b = omega arith
 months_within_is y (suc n) k days h a b = elim (leb_tells (days_of_months y (suc n)) days) [
-  | inl fits ↦
-      let more = fits.1 in
-      rw fits.0 (elim (leb_tells k n) [
-        | inl small ↦
-            let later = days_of_months_mono y (suc k) (suc n) (omega arith) in
-            absurd (omega arith)
-        | inr big ↦ omega arith
-      ])
-  | inr over ↦
-      let less = over.1 in
-      rw over.0 (months_within_is y n k days (elim (leb_tells k n) [
-        | inl small ↦ small.1
-        | inr big ↦
-            let same : k ≡ suc n = omega arith in
-            let e = ap (days_of_months y) same in
-            absurd (omega arith)
-      ]) a b)
+  | inl fits ↦ rw fits.0 (let more = fits.1 in grind (arith, days_of_months_mono y (suc k) (suc n)))
+  | inr over ↦ rw over.0 (months_within_is y n k days (let less = over.1 in grind arith) a b)
 ]
 
 date_in_year_is : (y : ℤ) (m d days : ℕ) → 1 ≤ m → m ≤ 12 → 1 ≤ d → d ≤ days_in_month y m → days + 1 ≡ days_of_months y (m - 1) + d → date_in_year y days ≡ record { year = y; month = m; day = d }

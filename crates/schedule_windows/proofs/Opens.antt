@@ -25,9 +25,11 @@ unfolding is_open_at is_open_after
 is_open_at-after windows zone moment count e =
     ap (λ s. list_any (λ w. nat_lt (since w s) w.length) (spans windows)) (week_second (pos moment +ℤ offset_at zone moment) count e)
 
--- the same some seconds later, where the offset is still the same
-pub is_open_later : (windows : Windows) (zone : ZoneOf) (at k count : ℕ) (offset : ℤ) → offset ≡ offset_at zone at → offset_at zone (at + k) ≡ offset_at zone at → pos count ≡ (pos at +ℤ offset +ℤ pos 345_600) → is_open_at windows zone (at + k) ≡ is_open_after (spans windows) (count + k)
-is_open_later windows zone at k count offset same stays e =
+-- the same some seconds later, as long as the offset is still the same
+pub is_open_later : (windows : Windows) (zone : ZoneOf) (at until count : ℕ) (offset : ℤ) → offset ≡ offset_at zone at → ((m : ℕ) → at ≤ m → m < until → offset_at zone m ≡ offset_at zone at) → pos count ≡ (pos at +ℤ offset +ℤ pos 345_600)
+    → (k : ℕ) → k < until - at → is_open_at windows zone (at + k) ≡ is_open_after (spans windows) (count + k)
+is_open_later windows zone at until count offset same stays e k lt =
+    let still = stays (at + k) (omega arith) (omega arith) in
     is_open_at-after windows zone (at + k) (count + k) (omega (arith, signed_arith))
 
 -- what is closed up to a moment and from it on is closed throughout

@@ -1,11 +1,12 @@
 -- A rule that was read has the offsets of its text.
-use Rattle.std.proofs.Common.{◌≡◌, ℕ, ℤ, pos, neg_ℤ, Bool, true, false, IsTrue, List, Option, Some, None, option_map, refl, sym, ap, ◌∙◌, rules}
-use Rattle.std.specs.Prelude.{◌&&◌, ◌||◌, int_lt, if◌then◌else◌}
+use Rattle.std.proofs.Common.{◌≡◌, ℕ, ℤ, pos, neg_ℤ, Bool, true, false, IsTrue, List, Option, Some, None, option_map, refl, ap, ◌∙◌, rules}
+use Rattle.std.specs.Prelude.{if◌then◌else◌}
+use Rattle.std.proofs.lemmas.Bool.{cond-true}
 use Rattle.jiff_core.specs.Timestamp.{nanos_of_seconds}
 use Rattle.jiff_core.specs.declared.offset.Offset.{Offset}
 use Rattle.jiff_tz.specs.PosixDay.{is_rule_day}
 use Rattle.jiff_tz.specs.PosixReader.{read_whole}
-use Rattle.jiff_tz.specs.PosixRule.{first_nanosecond, last_nanosecond, int_same, in_window, saturating_add, rule_nanos, utc_window, dst_at_by, match_some}
+use Rattle.jiff_tz.specs.PosixRule.{in_window, rule_nanos, utc_window, dst_at_by, match_some}
 use Rattle.jiff_tz.specs.PosixText.{day_time_view, dst_view, tz_view}
 use Rattle.jiff_tz.specs.Year.{year_of_nanos}
 use Rattle.jiff_tz.specs.declared.posix.Day.{Day}
@@ -20,11 +21,8 @@ use Rattle.schedule_windows.specs.Zones.{offset_at, read_offset_at, rule_offset_
 offset_of-seconds : (o : Offset) → (offset_of o.seconds).seconds ≡ o.seconds
 offset_of-seconds o = clamp_to-within _ _ o.seconds o.in_range.0 o.in_range.1
 
-day_chosen : (d : Day) (b : Bool) → b ≡ true → (if b then d else JulianZero 0) ≡ d
-day_chosen d b e = (λ i. if e i then d else JulianZero 0) ∙ refl
-
 day_stays : (d : Day) → IsTrue (is_rule_day d) → (if is_rule_day d then d else JulianZero 0) ≡ d
-day_stays d h = day_chosen d (is_rule_day d) (search rules)
+day_stays d h = cond-true (is_rule_day d) d (JulianZero 0) (search rules)
 
 day_time_stays : (y : ℤ) (d : DayTime) (seconds : ℤ) → rule_nanos y (day_time_of (day_time_view d)) seconds ≡ rule_nanos y d seconds
 unfolding rule_nanos
@@ -33,26 +31,9 @@ day_time_stays y d seconds =
     let time = clamp_to-within (neg_ℤ (pos 604_799)) (pos 604_799) d.time d.time_in.0 d.time_in.1 in
     rw (date, time) refl
 
--- the window by its two moments
-window_by : ℤ → ℤ → ℤ → ℤ → ℤ × ℤ
-window_by y start end std = if int_same start (first_nanosecond y)
-    && (int_lt (saturating_add end (nanos_of_seconds std)) (first_nanosecond y) || int_lt (last_nanosecond y) (saturating_add end (nanos_of_seconds std)))
-    then (start, last_nanosecond y)
-    else (start, end)
-
-utc_window-by : (d : Dst) (y : ℤ) (std : Offset) → utc_window d y std ≡ window_by y (rule_nanos y d.rule.start std.seconds) (rule_nanos y d.rule.end d.offset.seconds) std.seconds
-unfolding utc_window window_by
-utc_window-by d y std = refl
-
 window_stays : (d : Dst) (y : ℤ) (std : Offset) → utc_window (dst_of (dst_view d)) y (offset_of std.seconds) ≡ utc_window d y std
-window_stays d y std =
-    let ahead = offset_of-seconds std in
-    let later = offset_of-seconds d.offset in
-    let start : rule_nanos y (day_time_of (day_time_view d.rule.start)) (offset_of std.seconds).seconds ≡ rule_nanos y d.rule.start std.seconds =
-    ap (rule_nanos y (day_time_of (day_time_view d.rule.start))) ahead ∙ day_time_stays y d.rule.start std.seconds in
-    let end : rule_nanos y (day_time_of (day_time_view d.rule.end)) (offset_of d.offset.seconds).seconds ≡ rule_nanos y d.rule.end d.offset.seconds =
-    ap (rule_nanos y (day_time_of (day_time_view d.rule.end))) later ∙ day_time_stays y d.rule.end d.offset.seconds in
-    utc_window-by (dst_of (dst_view d)) y (offset_of std.seconds) ∙ (λ i. window_by y (start i) (end i) (ahead i)) ∙ sym (utc_window-by d y std)
+unfolding utc_window
+window_stays d y std = rw (offset_of-seconds std, offset_of-seconds d.offset, day_time_stays y d.rule.start std.seconds, day_time_stays y d.rule.end d.offset.seconds) refl
 
 seconds_by : Offset → Option Dst → ℤ → ℤ
 seconds_by std dst n = (match_some (dst_at_by std dst n) std (λ d. d.offset)).seconds

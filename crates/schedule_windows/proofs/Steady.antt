@@ -1,10 +1,10 @@
 -- The offset of a rule stays the same within a year up to the next transition.
-use Rattle.std.proofs.Common.{◌≡◌, ◌+◌, ◌≤◌, ◌/◌, ◌*◌, ℕ, zero, suc, ℤ, pos, ◌-ℤ◌, ◌≤ℤ◌, ◌<ℤ◌, Bool, true, false, cond, not, Option, Some, None, refl, sym, ap, subst, ◌∙◌, inl, inr, arith}
+use Rattle.std.proofs.Common.{◌≡◌, ◌+◌, ◌≤◌, ◌/◌, ◌*◌, ℕ, zero, suc, ℤ, pos, ◌-ℤ◌, ◌≤ℤ◌, ◌<ℤ◌, Bool, true, false, cond, not, Option, Some, None, refl, sym, ap, ◌∙◌, arith}
 use Rattle.std.specs.Prelude.{◌&&◌, int_le, int_lt, if◌then◌else◌}
-use Rattle.std.proofs.lemmas.Bool.Decides.{leb_tells}
+use Rattle.std.proofs.lemmas.Bool.{false_from_ne_true, true_from_ne_false}
+use Rattle.std.proofs.lemmas.Bool.Decides.{nat_tests}
 use Rattle.std.proofs.lemmas.Int.{by_lt_z}
 use borrow.Author.Differences.{lt-true, lt-false}
-use Rattle.jiff_core.specs.Calendar.{days_of_years}
 use Rattle.jiff_core.specs.Timestamp.{nanos_of_seconds}
 use Rattle.jiff_core.specs.declared.offset.Offset.{Offset}
 use Rattle.jiff_core.proofs.SignedLemmas.{signed_arith}
@@ -18,16 +18,10 @@ use Rattle.schedule_windows.specs.Steady.{IsSteady}
 use Rattle.schedule_windows.specs.Zones.{rule_offset_at}
 
 lt_yes : (a b : ℤ) → a <ℤ b → int_lt a b ≡ true
-lt_yes a b h = elim (int_lt a b) as (λ v. int_lt a b ≡ v → v ≡ true) [
-  | true ↦ λ e. refl
-  | false ↦ λ e. let over = lt-false a b e in absurd (omega (arith, signed_arith))
-] refl
+lt_yes a b h = true_from_ne_false (int_lt a b) (λ e. let over = lt-false a b e in omega (arith, signed_arith))
 
 lt_no : (a b : ℤ) → b ≤ℤ a → int_lt a b ≡ false
-lt_no a b h = elim (int_lt a b) as (λ v. int_lt a b ≡ v → v ≡ false) [
-  | true ↦ λ e. let under = lt-true a b e in absurd (omega (arith, signed_arith))
-  | false ↦ λ e. refl
-] refl
+lt_no a b h = false_from_ne_true (int_lt a b) (λ e. let under = lt-true a b e in omega (arith, signed_arith))
 
 -- whether a number lies in a span changes at the span's ends alone
 span_stays : (a b n k : ℤ) → n ≤ℤ k → (n <ℤ a → k <ℤ a) → (a ≤ℤ n → n <ℤ b → k <ℤ b) → (int_le a k && int_lt k b) ≡ (int_le a n && int_lt n b)
@@ -51,24 +45,12 @@ window_stays a b n k le first second = elim (int_le a b) as (λ t. (n <ℤ (cond
 years_within-le : (n days : ℕ) → years_within n days ≤ n
 unfolding years_within
 years_within-le zero days = omega arith
-years_within-le (suc n) days = elim (leb_tells (days_of_years (suc n)) days) [
-  | inl fits ↦ rw fits.0 (omega arith)
-  | inr over ↦ rw over.0 (let before = years_within-le n days in omega arith)
-]
+years_within-le (suc n) days = grind (arith, nat_tests, years_within-le n days)
 
 years_within_mono : (n a b : ℕ) → a ≤ b → years_within n a ≤ years_within n b
 unfolding years_within
 years_within_mono zero a b h = omega arith
-years_within_mono (suc n) a b h = elim (leb_tells (days_of_years (suc n)) a) [
-  | inl fits ↦ elim (leb_tells (days_of_years (suc n)) b) [
-    | inl also ↦ rw (fits.0, also.0) (omega arith)
-    | inr over ↦ let x = fits.1 in let y = over.1 in absurd (omega arith)
-  ]
-  | inr over ↦ elim (leb_tells (days_of_years (suc n)) b) [
-    | inl fits ↦ rw (over.0, fits.0) (let below = years_within-le n a in omega arith)
-    | inr also ↦ rw (over.0, also.0) (years_within_mono n a b h)
-  ]
-]
+years_within_mono (suc n) a b h = grind (arith, nat_tests, years_within-le n a, years_within_mono n a b h)
 
 same_years : (a b : ℕ) → (pos a -ℤ pos 10000) ≡ (pos b -ℤ pos 10000) → a ≡ b
 same_years a b e = omega (arith, signed_arith)
@@ -118,5 +100,4 @@ steady_offset rule first last k steady low high = seconds_stay rule.std_offset r
     let below : m <ℤ steady.next.0 = omega (arith, signed_arith) in
     ap (λ (z : ℤ). in_window (utc_window d z rule.std_offset) m) (year_stays first last k steady.year low high)
     ∙ window_stays w.0 w.1 n m order
-    (λ under. subst (λ (z : ℤ). m <ℤ z) (sym (ends.0 under)) below)
-    (λ over inside. subst (λ (z : ℤ). m <ℤ z) (sym (ends.1 over inside)) below))
+    (λ under. rw (ends.0 under) below) (λ over inside. rw (ends.1 over inside) below))

@@ -4,6 +4,7 @@ use Rattle.std.specs.Prelude.{◌||◌, Some, Option, None, slice_get, if◌then
 use Rattle.std.specs.List.{list_any}
 use Rattle.std.proofs.Math.Seq.{drop-cons}
 use Rattle.std.proofs.lemmas.List.Folds.{list_any_more, list_any_at}
+use Rattle.std.proofs.lemmas.Bool.{or_right}
 use Rattle.std.proofs.lemmas.Option.{slice_get_within, get_or_from_slice_get}
 use Rattle.schedule_windows.specs.declared.civil.Civil.{Civil}
 use Rattle.schedule_windows.specs.declared.week.WeekSpan.{WeekSpan}
@@ -16,15 +17,8 @@ any_more p xs i x e = list_any_more p xs i x (slice_get_within xs i x e) ∙ ap 
 pub any_neither : {X : Type 0} (p : X → Bool) (xs : List X) (i : ℕ) (x : X) → slice_get xs i ≡ Some x → list_any p (take i xs) ≡ false → p x ≡ false → list_any p (take (i + 1) xs) ≡ false
 any_neither p xs i x e before here = any_more p xs i x e ∙ (λ j. before j || here j)
 
-pub any_before : {X : Type 0} (p : X → Bool) (xs : List X) (i : ℕ) (x : X) → slice_get xs i ≡ Some x → list_any p (take i xs) ≡ true → list_any p (take (i + 1) xs) ≡ true
-any_before p xs i x e before = any_more p xs i x e ∙ (λ j. before j || p x)
-
-or_true : (a b : Bool) → b ≡ true → (a || b) ≡ true
-or_true true b e = refl
-or_true false b e = e
-
 pub any_last : {X : Type 0} (p : X → Bool) (xs : List X) (i : ℕ) (x : X) → slice_get xs i ≡ Some x → p x ≡ true → list_any p (take (i + 1) xs) ≡ true
-any_last p xs i x e here = any_more p xs i x e ∙ or_true _ _ here
+any_last p xs i x e here = any_more p xs i x e ∙ or_right _ _ here
 
 pub any_at : {X : Type 0} (p : X → Bool) (xs : List X) (i : ℕ) (x : X) → slice_get xs i ≡ Some x → p x ≡ true → list_any p xs ≡ true
 any_at p xs i x e here = list_any_at p xs i x (slice_get_within xs i x e) (ap p (get_or_from_slice_get xs i x x e) ∙ here)

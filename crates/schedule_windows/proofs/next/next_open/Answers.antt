@@ -1,9 +1,7 @@
-use Rattle.std.proofs.Common.{◌≡◌, ◌∙◌, ◌+◌, ◌-◌, ◌<◌, ℕ, w32, FitsSigned, subst, arith}
+use Rattle.std.proofs.Common.{◌≡◌, ◌∙◌, ◌+◌, ◌-◌, ◌<◌, ℕ, w32, FitsSigned, arith}
 use Rattle.std.proofs.lemmas.Int.{to_z-of_z}
 use Rattle.jiff_core.proofs.SignedLemmas.{signed_arith}
 use Rattle.site_types.specs.declared.window.Windows.{Windows}
-use Rattle.schedule_windows.specs.Opens.{is_open_at, is_open_after, IsClosedBetween}
-use Rattle.schedule_windows.specs.Weeks.{spans}
 use Rattle.schedule_windows.specs.Zones.{ZoneOf}
 use Rattle.schedule_windows.proofs.Opens.{is_open_later, closed_on}
 use Rattle.schedule_windows.proofs.next.next_open.Goals as goal
@@ -18,8 +16,7 @@ returns-then-wait-until-clause-value c =
     let until = c.same_offset_until-until.ensures in
     let fits : FitsSigned w32 c.seconds_at.result = omega (arith, signed_arith) in
     let ahead = to_z-of_z w32 c.seconds_at.result fits ∙ c.seconds_at.ensures.value in
-    let opens : (k : ℕ) → k < c.same_offset_until-until.result - at → is_open_at windows zone (at + k) ≡ is_open_after (spans windows) (c.week_count.result + k) =
-    λ k h. is_open_later windows zone at k c.week_count.result _ ahead (until.same (at + k) (omega arith) (omega arith)) c.week_count.ensures.value in
+    let opens = is_open_later windows zone at c.same_offset_until-until.result c.week_count.result _ ahead until.same c.week_count.ensures.value in
     let soon : wait < c.same_offset_until-until.result - at = c.if-wait-until.true in
     record {
       later = omega arith;
@@ -38,12 +35,11 @@ loop-at-preserved c =
     let until = c.same_offset_until-until.ensures in
     let fits : FitsSigned w32 c.seconds_at.result = omega (arith, signed_arith) in
     let ahead = to_z-of_z w32 c.seconds_at.result fits ∙ c.seconds_at.ensures.value in
-    let opens : (k : ℕ) → k < c.same_offset_until-until.result - at → is_open_at windows zone (at + k) ≡ is_open_after (spans windows) (c.week_count.result + k) =
-    λ k h. is_open_later windows zone at k c.week_count.result _ ahead (until.same (at + k) (omega arith) (omega arith)) c.week_count.ensures.value in
+    let opens = is_open_later windows zone at c.same_offset_until-until.result c.week_count.result _ ahead until.same c.week_count.ensures.value in
     let full = c.if-wait-until.false in
     let whole : at + (c.same_offset_until-until.result - at) ≡ c.same_offset_until-until.result = omega arith in
     record {
       low = omega arith;
       high = omega arith;
-      closed = subst (λ (x : ℕ). IsClosedBetween windows zone c.args.moment x) whole (closed_on windows zone c.args.moment at (c.same_offset_until-until.result - at) known.closed (λ k h. opens k h ∙ c.wait_within-wait.ensures.closed k (omega arith)));
+      closed = rw whole at (closed_on windows zone c.args.moment at (c.same_offset_until-until.result - at) known.closed (λ k h. opens k h ∙ c.wait_within-wait.ensures.closed k (omega arith)));
     }

@@ -3,7 +3,8 @@ use Rattle.std.proofs.lemmas.Bool.Decides.{leb_tells}
 use Rattle.schedule_windows.specs.declared.week.WeekSpan.{WeekSpan}
 use Rattle.schedule_windows.specs.Opens.{is_open_after, is_span_open}
 use Rattle.schedule_windows.specs.Weeks.{spans}
-use Rattle.schedule_windows.proofs.Walks.{any_neither, any_before, any_last}
+use Rattle.std.proofs.lemmas.List.Folds.{list_any_kept}
+use Rattle.schedule_windows.proofs.Walks.{any_neither, any_last}
 use Rattle.schedule_windows.proofs.next.wait_within.Goals as goal
 
 pub loop-index-init : goal.loop-index-init
@@ -27,7 +28,7 @@ loop-index-preserved c =
         | inl first ↦
             let below = first.1 in
             let same : least ≡ c.loop-index.least = omega arith in
-            rw same (any_before (is_span_open (c.args.count + c.loop-index.least)) xs i w here (known.open_then (omega arith)))
+            rw same (list_any_kept (is_span_open (c.args.count + c.loop-index.least)) xs i (known.open_then (omega arith)))
         | inr second ↦
             let below = second.1 in
             let same : least ≡ wait = omega arith in
