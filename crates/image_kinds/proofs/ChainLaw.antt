@@ -1,6 +1,6 @@
 -- The law of chains: a chain of a client's backups gives the selected part of its last stream.
 use Rattle.image_kinds.proofs.Common.{◌≡◌, ℕ, ◌+◌, suc, true, List, [], ◌∷◌, ◌++◌, take, drop, Option, Some, None, refl, sym, ap, subst, ◌∙◌, arith, inl, inr, ◌⊎◌, map, nat_le, Contains, Result, Ok, Err, IfOk, cond-true, cond-false, cases_Bool, leb-false, Entry, Item, Taken, Kept}
-use Rattle.std.specs.List.{AllByRecursion, filter_map, cons_option}
+use Rattle.std.specs.List.{AllByRecursion, filter_map}
 use Rattle.std.proofs.lemmas.List.{map-append, take-append-drop, drop_more}
 use Rattle.image_kinds.specs.Paths.{rise_behind}
 use Rattle.image_kinds.specs.Streams.{path_of, taken_of, IsStream}
@@ -8,7 +8,6 @@ use Rattle.image_kinds.specs.Images.{selected, item_made, made}
 use Rattle.image_kinds.specs.Trees.{taken_in, last_taken, last_image, tree, Backup, images_behind, chain_of, last_stream, KeepsOld, AllKeepOld, AreBackups}
 use Rattle.image_kinds.proofs.Orders.{made_is, path_made}
 use Rattle.image_kinds.proofs.Trees.{paths, taken_here}
-use Rattle.std.specs.Option.{option_or}
 
 -- an element stands between those before it and those behind it
 stands : (xs : List Entry) (e : Entry) (at : Contains xs e) → xs ≡ take at.0 xs ++ e ∷ drop (at.0 + 1) xs

@@ -1,5 +1,5 @@
 -- The tree of a chain, image by image.
-use Rattle.image_kinds.proofs.Common.{◌≡◌, ℕ, ◌+◌, ◌-◌, ◌<◌, ◌≤◌, true, List, [], ◌∷◌, ◌++◌, length, get_or, take, Option, Some, None, refl, sym, ap, subst, ◌∙◌, append_assoc, arith, inl, inr, map, bytes_eq, and_parts, and_from, cond-true, cond-false, cases_Bool, Entry, Item, Taken, Kept}
+use Rattle.image_kinds.proofs.Common.{◌≡◌, ℕ, ◌+◌, ◌-◌, ◌<◌, ◌≤◌, true, List, [], ◌∷◌, ◌++◌, length, get_or, take, Option, Some, None, refl, sym, ap, subst, ◌∙◌, append_assoc, arith, inl, inr, map, bytes_eq, and_parts, and_from, cases_Bool, Entry, Item, Taken, Kept}
 use Rattle.std.specs.List.{AllByRecursion, filter_map, cons_option}
 use Rattle.std.proofs.lemmas.List.{take_more, take_all}
 use Rattle.std.proofs.lemmas.Slice.Eq.{bytes_eq-Decides}
@@ -13,19 +13,13 @@ use Rattle.std.specs.Option.{option_or}
 use Rattle.std.proofs.lemmas.Option.{none-some, same_Some}
 use Rattle.std.proofs.lemmas.List.Elements.{filter_map-append}
 
-option_or_assoc : (a b c : Option Entry) → option_or (option_or a b) c ≡ option_or a (option_or b c)
-option_or_assoc None b c = refl
-option_or_assoc (Some x) b c = refl
-
 -- one more image at the end
 pub last_taken_more : (path : List ℕ) (images : List (List Item)) (image : List Item) → last_taken path (images ++ image ∷ []) ≡ option_or (taken_in path image) (last_taken path images)
-last_taken_more path [] image = option_or_nothing (taken_in path image)
-  where
-    option_or_nothing : (o : Option Entry) → option_or None o ≡ option_or o None
-    option_or_nothing None = refl
-    option_or_nothing (Some x) = refl
+last_taken_more path [] image = elim (taken_in path image) as (λ o. option_or None o ≡ option_or o None) [ None ↦ refl | Some x ↦ refl ]
 last_taken_more path (first ∷ images) image =
-    rw (last_taken_more path images image) (option_or_assoc (taken_in path image) (last_taken path images) (taken_in path first))
+    let others = last_taken path images in
+    let here = taken_in path first in
+    rw (last_taken_more path images image) (elim (taken_in path image) as (λ o. option_or (option_or o others) here ≡ option_or o (option_or others here)) [ None ↦ refl | Some x ↦ refl ])
 
 pub last_image_more : (images : List (List Item)) (image : List Item) → last_image (images ++ image ∷ []) ≡ image
 last_image_more [] image = refl

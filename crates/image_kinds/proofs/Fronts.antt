@@ -1,5 +1,5 @@
 -- Bytes begin with one list of whole items, and break in one place.
-use Rattle.image_kinds.proofs.Common.{get_or, ◌≡◌, ℕ, suc, ◌-◌, ◌<◌, ◌≤◌, true, false, List, [], ◌∷◌, ◌++◌, length, Option, Some, None, Ok, Err, refl, sym, ap, subst, ◌∙◌, append_assoc, arith, map, nat_eq, and_parts, and_from, both_ways, length-append, append_cancel_left, flat_map_more, w16, to_be_bytes, Item, Taken, Kept, Format, Result}
+use Rattle.image_kinds.proofs.Common.{get_or, ◌≡◌, ℕ, suc, ◌-◌, ◌<◌, ◌≤◌, true, false, List, [], ◌∷◌, ◌++◌, length, Option, Some, None, Ok, Err, refl, sym, ap, ◌∙◌, append_assoc, arith, map, nat_eq, and_parts, and_from, both_ways, length-append, append_cancel_left, flat_map_more, w16, to_be_bytes, Item, Taken, Kept, Format, Result}
 use Rattle.std.specs.List.{flat_map, AllByRecursion, starts_with}
 use Rattle.std.proofs.lemmas.Result.{MatchResult-at_ok, MatchResult-at_err}
 use Rattle.image_kinds.specs.Paths.{follows, rise_behind}

@@ -1,5 +1,5 @@
 -- The order of paths, and lists of them that rise.
-use Rattle.image_kinds.proofs.Common.{◌≡◌, ℕ, Bool, true, false, cond, List, [], ◌∷◌, Option, Some, None, Ordering, refl, ap, ◌∙◌, map, filter, nat_le, nat_cmp, is_lt, Less, Equal, Greater, AllByRecursion, and_parts, and_from, cond_both, nat_list_cmp_total, Entry, Taken, Kept}
+use Rattle.image_kinds.proofs.Common.{◌≡◌, ℕ, Bool, true, List, [], ◌∷◌, Option, Some, None, Ordering, refl, ap, ◌∙◌, map, filter, nat_le, nat_cmp, is_lt, Less, Equal, Greater, AllByRecursion, and_parts, and_from, cond_both, nat_list_cmp_total, Entry, Taken, Kept}
 use Rattle.std.specs.Cmp.Lexicographic.{slice_cmp}
 use Rattle.image_kinds.specs.Paths.{is_path, is_before, follows, rise_behind}
 use Rattle.image_kinds.specs.Streams.{path_of, IsEntry, IsItem, IsStream, IsImage}

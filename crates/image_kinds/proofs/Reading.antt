@@ -1,5 +1,5 @@
 -- What is read of a field is what is spelled at the front, and where nothing is read the field breaks its rule.
-use Rattle.image_kinds.proofs.Common.{◌≡◌, ℕ, suc, ◌+◌, ◌^◌, ◌<◌, ◌≤◌, Bool, true, false, cond, ltb, eqb, List, [], ◌∷◌, ◌++◌, length, get_or, take, drop, Option, Some, None, Result, Ok, Err, refl, sym, ap, subst, ◌∙◌, append_assoc, arith, inl, inr, MatchResult, ◌&&◌, Width, w16, w64, byte_len, from_be_bytes, to_be_bytes, cases_lt, ltb-false, ltb-true, le-ltb, eqb-true, and_parts, or_from, cond_both, Entry, Item, Taken, Kept, Format}
+use Rattle.image_kinds.proofs.Common.{◌≡◌, ℕ, suc, ◌+◌, ◌^◌, ◌<◌, ◌≤◌, true, false, cond, ltb, eqb, List, [], ◌∷◌, ◌++◌, length, get_or, take, drop, Option, Some, None, Result, Ok, Err, refl, sym, ap, subst, ◌∙◌, append_assoc, arith, inl, inr, MatchResult, ◌&&◌, Width, w16, w64, byte_len, from_be_bytes, to_be_bytes, cases_lt, ltb-false, ltb-true, le-ltb, eqb-true, and_parts, or_from, cond_both, Entry, Item, Taken, Kept, Format}
 use Rattle.std.proofs.lemmas.List.{take_at, drop_at, take-append-drop, length-append, length-take, get_or-drop, get_or-take, get_or_past}
 use Rattle.std.proofs.lemmas.Nat.{be_bytes_2, be_bytes_8, from_be_bytes-to_be_bytes_2, from_be_bytes-to_be_bytes_8}
 use Rattle.image_kinds.specs.Paths.{is_path_length, follows}

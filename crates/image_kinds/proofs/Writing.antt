@@ -1,5 +1,5 @@
 -- Writing one part behind another.
-use Rattle.image_kinds.proofs.Common.{◌≡◌, ℕ, ◌+◌, ◌<◌, ◌≤◌, zero, suc, true, List, [], ◌∷◌, ◌++◌, length, get_or, take, sym, ap, ◌∙◌, append_assoc, arith, map, flat_map, and_parts, Entry, Item, Taken, subst}
+use Rattle.image_kinds.proofs.Common.{◌≡◌, ℕ, ◌+◌, ◌<◌, ◌≤◌, zero, suc, true, List, [], ◌∷◌, ◌++◌, length, get_or, take, ap, ◌∙◌, append_assoc, arith, map, flat_map, and_parts, Entry, Item, Taken}
 use Rattle.std.proofs.lemmas.List.{flat_map_more, take_more, take_all, length-map}
 use Rattle.image_kinds.specs.Paths.{is_path_length, follows, rise_behind}
 use Rattle.image_kinds.specs.Streams.{path_of, spelled_entry, spelled_item}

@@ -1,4 +1,4 @@
-use Rattle.image_kinds.proofs.Common.{arith, ◌++◌, [], ◌∷◌, ◌≡◌, ◌-◌, ◌∙◌, sym, ap, subst, Some, None, List, length, take, Option, filter_map, append-nil, Entry, Item}
+use Rattle.image_kinds.proofs.Common.{arith, ◌++◌, [], ◌∷◌, ◌≡◌, ◌-◌, ◌∙◌, sym, ap, subst, Some, None, length, take, Option, append-nil, Entry}
 use Rattle.std.specs.Global.{Vec}
 use Rattle.image_kinds.specs.Streams.{IsImage}
 use Rattle.image_kinds.specs.Trees.{entry_behind}
@@ -34,4 +34,4 @@ returns c =
     let items = sym c.items-items.ensures.items in
     c.new.ensures
     ∙ merged_all c.args.images.now c.last-item.result c.loop-item.item-index c.loop-item.entries.items (omega (arith, c.in-len1-up.len_at_least)) c.last-item.is c.items-items.ensures.image (rw items c.loop-item-test.false)
-    (c.loop-item.invariant.found ∙ ap (λ (is : List Item). filter_map (entry_behind (take (length c.args.images.now - 1) c.args.images.now)) (take c.loop-item.item-index is)) c.items-items.ensures.items)
+    (rw c.items-items.ensures.items at c.loop-item.invariant.found)
