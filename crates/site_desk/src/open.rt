@@ -17,7 +17,6 @@ impl<V: Vault> Desk<V> {
     ///
     /// NotAVault comes exactly where the vault's journal stands for no state, with the offset of the first of its records that is
     /// broken or doesn't fit, or at which its header is wrong.
-    #[tactic(auto, using(crate::proofs::Standings::opens))]
     pub fn open_vault(alloc: Global, mut vault: V) -> Result<Desk<V>, (V, JournalFault)>
         ensures running { IfOk result (λ d. d.stopped ≡ false) }
         ensures state { (V.disk vault).tells → IfOk result (λ d. (opened (V.disk vault).seen ≡ Ok d.state) × Standing (V.disk d.vault) d.state) }

@@ -6,6 +6,7 @@ use Rattle.pool_journal.specs.Stops.{IsOpened}
 use Rattle.site_desk.specs.Index.{IsReplayed}
 use Rattle.site_desk.proofs.Opening.{unfit_opening, broken_opening, fine_opening, state_found}
 use Rattle.site_desk.proofs.SoundImages.{disk_sound}
+use Rattle.site_desk.proofs.Standings.{opens}
 use Rattle.site_desk.proofs.desk.Desk.open_vault.Goals as goal
 
 pub returns-in-Some-clause-not_a_vault : goal.returns-in-Some-clause-not_a_vault
@@ -34,3 +35,15 @@ returns-clause-state g c told =
 
 pub returns-clause-sound : goal.returns-clause-sound
 returns-clause-sound g c told = disk_sound (g.V.Vault.disk c.args.vault).seen _ (ap result_ok (returns-clause-state g c told).0)
+
+pub returns-in_default-clause-stops : goal.returns-in_default-clause-stops
+returns-in_default-clause-stops g c told = opens _ _ (c.open_file.ensures.stops told)
+
+pub returns-in-Some-clause-stops : goal.returns-in-Some-clause-stops
+returns-in-Some-clause-stops g c told = opens _ _ (c.open_file.ensures.stops told)
+
+pub returns-in-Some-bad-clause-stops : goal.returns-in-Some-bad-clause-stops
+returns-in-Some-bad-clause-stops g c told = opens _ _ (c.open_file.ensures.stops told)
+
+pub returns-clause-stops : goal.returns-clause-stops
+returns-clause-stops g c told = opens _ _ (c.open_file.ensures.stops told)
