@@ -28,7 +28,7 @@ use Rattle.site_desk.specs.Extents.{extent_of}
 use Rattle.site_desk.specs.Index.{built, Remembers, IsSet, SameIndex}
 use Rattle.site_desk.specs.Steps.{IsReady, IsRefused, IsStepRefusal}
 use Rattle.site_desk.specs.declared.index.Index.{Index}
-use Rattle.site_desk.proofs.IndexLemmas.{remembers_more}
+use Rattle.site_desk.proofs.IndexLemmas.{remembers_more, remembers_set}
 use Rattle.site_desk.proofs.Deciding.{plain_settings}
 use Rattle.site_desk.proofs.Refusing.{refused_as, first_plain, sized_seen}
 
@@ -85,8 +85,8 @@ module _ (request : Request) (old new : Index) (refusal : Option Answer) (sets :
     none_steps : refusal ≡ None → step s request payload moment ≡ (Done [], set_by request s)
     none_steps is = setting_steps s request payload moment setting ∙ ap (λ (o : Option Answer). unless_refused s o (Done [], set_by request s)) (set_here.first ∙ is)
 
-    pub ready_here : (end : ℕ) (staged body : List ℕ) → refusal ≡ None → IsFormed request → IsStaged row staged → body ≡ [] → Remembers records new images → IsReady records end s request payload moment staged body new
-    ready_here end staged body is formed staged_is body_is remembered =
+    pub ready_here : (end : ℕ) (staged body : List ℕ) → refusal ≡ None → IsFormed request → IsStaged row staged → body ≡ [] → IsReady records end s request payload moment staged body new
+    ready_here end staged body is formed staged_is body_is =
         let after : set_by request s ≡ built new.site images (stored_after request stored) = ap (λ (site : Site). built site images (stored_after request stored)) (sym (set_here.done is)) in
         record {
           row = row;
@@ -95,5 +95,5 @@ module _ (request : Request) (old new : Index) (refusal : Option Answer) (sets :
           stored = stored_after request stored;
           applies = ap (option_and_then (λ t. settled t [])) (settles s request setting formed (set_here.first ∙ is)) ∙ ap Some after;
           steps = none_steps is ∙ (λ i. (Done (sym body_is i), after i));
-          remembers = λ short. remembers_more records (with_one records end row) new images (still_there records end row) remembered;
+          remembers = λ short. remembers_more records (with_one records end row) new images (still_there records end row) (remembers_set records images s request old new refusal set_here remembers);
         }

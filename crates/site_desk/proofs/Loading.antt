@@ -43,12 +43,11 @@ unless_set requests t refusal = option_map_or (λ a. Err a) refusal (all_set req
 -- the requests so far were carried out, and this is the index of the state that they make
 pub record SetSoFar (requests : List Request) (i : ℕ) (old index : Index) : Type 0 where
   pub so_far : (images : List Image) (stored : List Stored) → AreListed old images → (stored' : List Stored) × (all_set requests (built old.site images stored) ≡ all_set (drop i requests) (built index.site images stored'))
-  pub remembered : (records : List Found) (images : List Image) → Remembers records old images → Remembers records index images
   pub catalogue : index.catalogue ≡ old.catalogue
   pub extents : index.extents ≡ old.extents
 
 pub none_set : (requests : List Request) (old : Index) → SetSoFar requests 0 old old
-none_set requests old = record { so_far = λ images stored listed. (stored, refl); remembered = λ records images remembers. remembers; catalogue = refl; extents = refl }
+none_set requests old = record { so_far = λ images stored listed. (stored, refl); catalogue = refl; extents = refl }
 
 module _ (requests : List Request) (i : ℕ) (old index : Index) (far : SetSoFar requests i old index) where
   pub each_set : length requests ≤ i → (images : List Image) (stored : List Stored) → AreListed old images → AreSet (all_set requests (built old.site images stored)) images index None
@@ -68,10 +67,9 @@ module _ (requests : List Request) (i : ℕ) (old index : Index) (far : SetSoFar
         (so_far.0, so_far.1 ∙ at_drop_more (λ (rs : List Request). all_set rs s) requests i request lt ∙ ap (λ (r : Request). all_set (r ∷ drop (i + 1) requests) s) (sym is) ∙ ap (unless_set (drop (i + 1) requests) (set_by request s)) set.first)
 
     -- the next one was carried out
-    pub next_set : refusal ≡ None → ((records : List Found) (images : List Image) → Remembers records index images → Remembers records new images) → SetSoFar requests (i + 1) old new
-    next_set none remembered = record {
+    pub next_set : refusal ≡ None → SetSoFar requests (i + 1) old new
+    next_set none = record {
       so_far = λ images stored listed. next images stored listed;
-      remembered = λ records images remembers. remembered records images (far.remembered records images remembers);
       catalogue = (set_seen request index new refusal sets).catalogue ∙ far.catalogue;
       extents = (set_seen request index new refusal sets).extents ∙ far.extents;
     }

@@ -32,6 +32,7 @@ use Rattle.site_desk.specs.declared.extents.Extent.{Extent}
 use Rattle.site_desk.specs.declared.index.Index.{Index}
 use Rattle.desk_model.proofs.ImageLists.{has_entry}
 use Rattle.site_desk.proofs.Admitting.{admitted}
+use Rattle.site_desk.proofs.IndexLemmas.{remembers_set}
 
 -- A record as it was read.
 
@@ -83,7 +84,7 @@ image_taken records images stored f w extent taken fits old new among is length_
   stored = next.stored;
   made = applied_image before f w is ∙ fitting (image_fits before w) next (sym fits_is ∙ good) ∙ ap (λ (s : Site). Some (built s (with_image image images) next.stored)) (sym site_is);
   remembers = admitted records records old new images image extent (λ f there. there) remembers lacking length_is
-      (record { place = f; among = among; from = from; size = size; bytes = refl; copy = _; copies = refl; number = refl; primary = refl }) site_is
+      (record { place = f; among = among; from = from; size = size; bytes = refl; copy = _; copies = refl; number = refl; primary = refl })
       (catalogue ∙ ap (λ (r : ImageRecord). with_record r old.catalogue) taken_is) (subst (λ (r : ImageRecord). Adds r.id extent old.extents new.extents) taken_is adds);
 }
   where
@@ -126,7 +127,7 @@ pub no_setting : (records : List Found) (s : State) (line : List ℕ) (index : I
 no_setting records s line index none = settled_by-with s line ∙ ap (settled_with s) none
 
 -- the request of a line was carried out, or refused
-pub line_settled : (records : List Found) (images : List Image) (stored : List Stored) (line : List ℕ) (request : Request) (refusal : Option Answer) (done : Bool) (old new : Index) → setting_of line ≡ Some request → is_some refusal ≡ not done → IsSet (built old.site images stored) request old new refusal → Remembers records new images
+pub line_settled : (records : List Found) (images : List Image) (stored : List Stored) (line : List ℕ) (request : Request) (refusal : Option Answer) (done : Bool) (old new : Index) → setting_of line ≡ Some request → is_some refusal ≡ not done → IsSet (built old.site images stored) request old new refusal → Remembers records old images
     → IsReached records (settled_by (built old.site images stored) line) new done
 line_settled records images stored line request refusal done old new is done_is set remembers = at refusal done refl done_is
   where
@@ -141,7 +142,7 @@ line_settled records images stored line request refusal done old new is done_is 
       images = images;
       stored = stored_after request stored;
       made = with_refusal ∙ ap (unless_refused s request) none ∙ ap (λ (site : Site). Some (built site images (stored_after request stored))) (sym (set.done none));
-      remembers = remembers;
+      remembers = remembers_set records images s request old new refusal set remembers;
     }
     at None false none so = absurd (cc so)
     at (Some answer) true some so = absurd (cc so)

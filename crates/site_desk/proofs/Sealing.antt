@@ -1,13 +1,9 @@
 -- A backup at once.
-use Rattle.std.proofs.Common.{◌≡◌, ◌≢◌, ◌≤◌, ◌<◌, ◌+◌, ◌^◌, ℕ, zero, suc, Bool, true, false, List, [], ◌∷◌, ◌++◌, length, Some, None, refl, sym, ◌∙◌, ap, subst, arith}
-use Rattle.std.specs.Prelude.{Option, if◌then◌else◌, ◌&&◌, ◌||◌, not, is_none, is_some, nat_le, nat_lt, unwrap_or, Contains}
-use Rattle.std.specs.Option.{option_map}
-use Rattle.std.specs.Str.{bytes_eq}
-use Rattle.std.proofs.lemmas.Bool.Decides.{nat_tests}
+use Rattle.std.proofs.Common.{◌≡◌, ◌≢◌, ◌≤◌, ◌<◌, ◌+◌, ◌^◌, ℕ, Bool, true, List, [], ◌∷◌, ◌++◌, length, Some, None, refl, sym, ◌∙◌, ap, subst}
+use Rattle.std.specs.Prelude.{Option, Contains}
 use Rattle.std.proofs.lemmas.List.Elements.{Contains-append_left, Contains-push}
 use Rattle.site_types.specs.Classes.{RequestClass, site_change, site_file, backup, restore, class_of}
 use Rattle.site_types.specs.Limits.{last_moment}
-use Rattle.site_types.specs.declared.answer.Answer.{Answer}
 use Rattle.site_types.specs.declared.answer.Answer.TheVariants.{Done}
 use Rattle.site_types.specs.declared.image.Base.TheVariants as base
 use Rattle.site_types.specs.declared.request.Request.{Request}
@@ -16,79 +12,25 @@ use Rattle.pool_journal.specs.declared.entry.Entry.TheVariants as entry
 use Rattle.pool_journal.specs.declared.entry.WholeImage.{WholeImage}
 use Rattle.pool_journal.specs.Entries.{Record, spelled_entry, IsStaged}
 use Rattle.pool_journal.specs.Records.{Found}
-use Rattle.slp_tree.specs.Lifecycles.{Lifecycle, version_in, version_named, latest_named}
-use Rattle.policy_book.specs.Lists.{named, has}
-use Rattle.policy_book.specs.Book.{Policy, policy_name, client_limit, basic, adhoc}
-use Rattle.desk_model.specs.declared.site.Site.{Site}
-use Rattle.desk_model.specs.State.{State, Image, Stored, has_image}
+use Rattle.desk_model.specs.State.{State, Image, Stored}
 use Rattle.desk_model.specs.Refusals.{first_refusal}
-use Rattle.desk_model.specs.Backups.{Asked, asked_of, image_limit, takes_all, is_known, latest_version, policy_asked, backup_refusals, backup_done, sealed}
+use Rattle.desk_model.specs.Sound.{Sound}
+use Rattle.desk_model.specs.Backups.{Asked, asked_of, backup_refusals, backup_done}
 use Rattle.desk_rules.specs.declared.decision.Change.TheVariants.{SealNow}
 use Rattle.desk_rules.specs.declared.decision.Decision.{Decision}
 use Rattle.desk_rules.specs.declared.decision.JobBody.{JobBody}
 use Rattle.desk_rules.specs.Decisions.{IsDecision, backup_body}
 use Rattle.desk_rules.specs.Seen.{seen}
-use Rattle.site_desk.specs.Stands.{apply, image_fits, whole_image, whole_unit}
-use Rattle.site_desk.specs.Index.{built, TimesBelow, IsWhole, Remembers}
+use Rattle.site_desk.specs.Stands.{apply}
+use Rattle.site_desk.specs.Index.{built, Remembers}
 use Rattle.site_desk.specs.Replays.{Reaches, IsReached}
 use Rattle.site_desk.specs.Desk.{whole_of}
 use Rattle.site_desk.specs.Steps.{backs_up, is_backup, IsTaken, IsReady, IsRefused, IsStepRefusal}
 use Rattle.site_desk.specs.declared.extents.Extent.{Extent}
 use Rattle.site_desk.specs.declared.index.Index.{Index}
 use Rattle.site_desk.proofs.IndexLemmas.{remembers_more}
-use Rattle.desk_model.proofs.NamedLemmas.{found_named}
-use Rattle.desk_model.proofs.Passing.{all_passed, there_is}
+use Rattle.site_desk.proofs.SoundImages.{backup_applies}
 use Rattle.site_desk.proofs.Deciding.{Decided, decided_on, decided_seen, refused_so, some_so, none_so, passed_so, step_so}
-
--- The latest version of a lifecycle is there, where there is one lifecycle.
-version_there : (name : List ℕ) (lifecycles : List Lifecycle) → lifecycles ≡ basic ∷ [] → is_some (latest_named name lifecycles) ≡ true → is_some (version_named name (unwrap_or (latest_named name lifecycles) 0) lifecycles) ≡ true
-version_there name lifecycles is there = subst (λ (ls : List Lifecycle). is_some (latest_named name ls) ≡ true → is_some (version_named name (unwrap_or (latest_named name ls) 0) ls) ≡ true) (sym is) (at (bytes_eq basic.name name)) there
-  where
-    at : (b : Bool) → is_some (option_map (λ (l : Lifecycle). length l.versions) (if b then Some basic else None)) ≡ true → is_some (version_in (unwrap_or (option_map (λ (l : Lifecycle). length l.versions) (if b then Some basic else None)) 0) (if b then Some basic else None)) ≡ true
-    at true some = refl
-    at false some = absurd (cc some)
-
-client_there : (there takes : Bool) (count : ℕ) → (not takes && not there) ≡ false → (takes && not there && nat_le client_limit count) ≡ false → (there || (takes && nat_lt count client_limit)) ≡ true
-client_there true takes count p q = refl
-client_there false true count p q = grind (arith, nat_tests, q)
-client_there false false count p q = absurd (cc p)
-
--- A backup that nothing refuses fits, and makes the state after it.
-module _ (site : Site) (images : List Image) (stored : List Stored) (asked : Asked) (moment : ℕ) where
-  abbrev s : State
-  s = built site images stored
-
-  abbrev w : WholeImage
-  w = whole_of (backup_body asked moment s) moment
-
-  lacking : TimesBelow site.book images → not (has_image w.id images) ≡ true
-  lacking below = at (has_image w.id images) refl
-    where
-      at : (b : Bool) → has_image w.id images ≡ b → not b ≡ true
-      at false is = refl
-      at true is = let low = below w.id is in absurd (omega (arith, low))
-
-  fits : IsWhole site.book → TimesBelow site.book images → moment ≤ last_moment → first_refusal (backup_refusals asked moment s) ≡ None → image_fits s w ≡ true
-  fits whole below early none =
-      let passed = all_passed (backup_refusals asked moment s) none in
-      let policy = there_is (policy_asked asked s) passed.1.0 in
-      let found = found_named policy_name asked.policy site.book.policies policy.0 policy.1 in
-      let policy_is : unwrap_or (policy_asked asked s) adhoc ≡ policy.0 = ap (λ (o : Option Policy). unwrap_or o adhoc) policy.1 in
-      let room : nat_lt (length images) image_limit ≡ true = let p : nat_le image_limit (length images) ≡ false = passed.0 in grind (arith, nat_tests, p) in
-      let policy_there : has policy_name w.policy site.book.policies ≡ true = ap (λ (p : Policy). has policy_name p.name site.book.policies) policy_is ∙ ap (λ (n : List ℕ). has policy_name n site.book.policies) found.0 ∙ ap is_some policy.1 in
-      let version : is_some (version_named w.lifecycle w.version site.book.lifecycles) ≡ true = ap (λ (p : Policy). is_some (version_named p.lifecycle (latest_version p.lifecycle site.book) site.book.lifecycles)) policy_is ∙ version_there policy.0.lifecycle site.book.lifecycles whole.lifecycles (whole.policies policy.0 found.1) in
-      let client : (is_known asked.client site.book || (takes_all w.policy && nat_lt (length site.book.clients) client_limit)) ≡ true =
-      ap (λ (p : Policy). is_known asked.client site.book || (takes_all p.name && nat_lt (length site.book.clients) client_limit)) policy_is ∙ ap (λ (n : List ℕ). is_known asked.client site.book || (takes_all n && nat_lt (length site.book.clients) client_limit)) found.0
-      ∙ client_there (is_known asked.client site.book) (takes_all asked.policy) (length site.book.clients) passed.1.1.0 passed.1.1.1.0 in
-      let above : nat_le 1 w.id.time ≡ true = grind (arith, nat_tests) in
-      let within : nat_le w.id.time last_moment ≡ true = let p : nat_lt last_moment w.id.time ≡ false = passed.1.1.1.1.1.1.1.1.1.0 in grind (arith, nat_tests, p) in
-      let completed : nat_le moment last_moment ≡ true = grind (arith, nat_tests, early) in
-      (λ i. room i && lacking below i && policy_there i && version i && client i && above i && within i && true && completed i)
-
-  pub applies : (payload : List ℕ) → asked.size ≡ length payload → IsWhole site.book → TimesBelow site.book images → moment ≤ last_moment → first_refusal (backup_refusals asked moment s) ≡ None → apply s (record { entry = entry.WholeImage w; bytes = payload }) ≡ Some (backup_done asked payload moment s).1
-  applies payload size whole below early none =
-      (λ i. if fits whole below early none i then Some (sealed (whole_image s w payload) (whole_unit s w) s) else None)
-      ∙ ap (λ (n : ℕ). Some (sealed (whole_image s (record w { length = n }) payload) (whole_unit s w) s)) size
 
 -- the index once an image was taken in whose bytes stand there
 abbrev pub Takes : WholeImage → Extent → Index → Index → Bool → Type 0
@@ -177,15 +119,15 @@ module _ (index : Index) (request : Request) (payload : List ℕ) (size moment :
     pub base_here : (whole_of body moment).base ≡ base.None
     base_here = ap (λ (b : JobBody). (whole_of b moment).base) (body_on start seen_so)
 
-    pub ready_here : (records : List Found) (images : List Image) (stored : List Stored) (end : ℕ) (image : WholeImage) (staged line : List ℕ) (new : Index) → Remembers records index images → moment ≤ last_moment → image ≡ whole_of body moment → d.answer ≡ Done line → IsStaged (record { entry = entry.WholeImage image; bytes = payload }) staged
+    pub ready_here : (records : List Found) (images : List Image) (stored : List Stored) (end : ℕ) (image : WholeImage) (staged line : List ℕ) (new : Index) → Remembers records index images → Sound (built index.site images stored) → moment ≤ last_moment → image ≡ whole_of body moment → d.answer ≡ Done line → IsStaged (record { entry = entry.WholeImage image; bytes = payload }) staged
         → IsTaken records end (built index.site images stored) (record { entry = entry.WholeImage image; bytes = payload }) new → IsReady records end (built index.site images stored) request payload moment staged line new
-    ready_here records images stored end image staged line new remembers early image_is line_is staged_is taken =
+    ready_here records images stored end image staged line new remembers sound early image_is line_is staged_is taken =
         let s : State = built index.site images stored in
         let here : IsDecision s request payload moment d = decided_on index request payload size moment d size_is decided images stored remembers.listed remembers.sized in
         let none = passed_on s here in
         let row_is : whole_of (backup_body asked moment s) moment ≡ image = ap (λ (b : JobBody). whole_of b moment) (sym (body_on s here)) ∙ sym image_is in
         let made : Some (built new.site taken.images taken.stored) ≡ Some (backup_done asked payload moment s).1 =
-        sym taken.applies ∙ ap (λ (w : WholeImage). apply s (record { entry = entry.WholeImage w; bytes = payload })) (sym row_is) ∙ applies index.site images stored asked moment payload refl remembers.whole remembers.below early none in
+        sym taken.applies ∙ ap (λ (w : WholeImage). apply s (record { entry = entry.WholeImage w; bytes = payload })) (sym row_is) ∙ backup_applies s sound asked payload moment refl early none in
         let state_is : (backup_done asked payload moment s).1 ≡ built new.site taken.images taken.stored = cc (sym made) in
         let answer_is : (backup_done asked payload moment s).0 ≡ Done line = sym (answer_on s here) ∙ line_is in
         record {

@@ -1,24 +1,15 @@
 -- What a request that changes the site makes of the index.
-use Rattle.std.proofs.Common.{◌≡◌, ◌≢◌, ◌∙◌, ◌≤◌, ℕ, Bool, true, false, List, [], ◌∷◌, length, map, refl, sym, ap, subst}
-use Rattle.std.specs.Prelude.{Option, Some, None, cond, is_some, not, ◌||◌, ◌&&◌, ◌==◌, nat_le, if◌then◌else◌, codes, unwrap_or}
-use Rattle.std.specs.Option.{option_map_or}
-use Rattle.std.specs.Str.{bytes_eq}
+use Rattle.std.proofs.Common.{◌≡◌, ◌≢◌, ◌∙◌, Bool, true, false, List, [], map, refl, sym, ap, subst}
+use Rattle.std.specs.Prelude.{Option, Some, None, cond, is_some, ◌||◌}
 use Rattle.site_types.specs.Classes.{site_change}
-use Rattle.site_types.specs.declared.answer.Answer.{Answer}
 use Rattle.site_types.specs.declared.id.BackupId.{BackupId}
 use Rattle.site_types.specs.declared.image.ImageRecord.{ImageRecord}
 use Rattle.site_types.specs.declared.request.Request.{Request}
-use Rattle.site_types.specs.declared.request.Request.TheVariants as request
-use Rattle.policy_book.specs.Lists.{named, has}
-use Rattle.policy_book.specs.Book.{Book, Policy, unit_name, client_name, policy_name, client_limit, policy_limit}
-use Rattle.policy_book.specs.declared.client.Client.{Client}
-use Rattle.policy_book.specs.Changes.{has_lifecycle, last_of, lister}
-use Rattle.image_catalogue.specs.Images.{same_id, first_of_client, record_named, with_record}
-use Rattle.pool_journal.specs.Records.{Found}
+use Rattle.image_catalogue.specs.Images.{same_id, record_named, with_record}
 use Rattle.desk_model.specs.declared.site.Site.{Site}
-use Rattle.desk_model.specs.State.{State, Image, Stored, entries, has_image, with_image}
+use Rattle.desk_model.specs.State.{State, Image, Stored, with_image}
 use Rattle.desk_model.specs.Refusals.{first_refusal}
-use Rattle.desk_model.specs.Settings.{is_setting, setting_refusals, site_after}
+use Rattle.desk_model.specs.Settings.{is_setting, setting_refusals}
 use Rattle.desk_rules.specs.declared.decision.Change.{Change}
 use Rattle.desk_rules.specs.declared.decision.Change.TheVariants.{Nothing, Settings, Load, SealNow}
 use Rattle.desk_rules.specs.declared.decision.SiteChange.{SiteChange}
@@ -27,9 +18,9 @@ use Rattle.desk_rules.specs.Decisions.{IsDecision, SetsSite}
 use Rattle.desk_rules.specs.SiteChanges.{IsSiteChange, site_made}
 use Rattle.desk_rules.specs.Seen.{blank}
 use Rattle.desk_rules.proofs.SeenLemmas.{entries_seen}
-use Rattle.site_desk.specs.Index.{built, IsWhole, TimesBelow, Remembers, IsSet, SameExtents}
+use Rattle.site_desk.specs.Index.{built, IsSet, SameExtents}
 use Rattle.std.specs.BTreeMap.{is_at}
-use Rattle.site_desk.specs.Extents.{Catalogued, extent_of, id_cmp, Adds, Removes}
+use Rattle.site_desk.specs.Extents.{extent_of, id_cmp, Adds, Removes}
 use Rattle.desk_model.proofs.ImageLists.{entries-with, has_entry, same_is}
 use Rattle.site_desk.proofs.Admitting.{has_image-with}
 use Rattle.site_desk.proofs.Changing.{class_change}
@@ -37,120 +28,6 @@ use Rattle.site_desk.proofs.Deciding.{none_so, some_so, passed_so}
 use Rattle.site_desk.proofs.ExtentLemmas.{at_same}
 use Rattle.site_desk.specs.declared.extents.Extent.{Extent}
 use Rattle.site_desk.specs.declared.index.Index.{Index}
-use Rattle.desk_model.proofs.NamedLemmas.{named-without, has-changed, each-put, each-changed, each-without}
-use Rattle.slp_tree.proofs.ListLemmas.{named-put, text_is}
-
--- What no refusal says.
-
-second_false : (b c : Bool) (x y : Answer) (rest : Option Answer) → (if b then Some x else (if c then Some y else rest)) ≡ None → c ≡ false
-second_false true c x y rest is = absurd (cc is)
-second_false false true x y rest is = absurd (cc is)
-second_false false false x y rest is = refl
-
-third_false : (b c d : Bool) (x y z : Answer) (rest : Option Answer) → (if b then Some x else (if c then Some y else (if d then Some z else rest))) ≡ None → d ≡ false
-third_false true c d x y z rest is = absurd (cc is)
-third_false false c d x y z rest is = second_false c d y z rest is
-
-not_so : (b : Bool) → not b ≡ false → b ≡ true
-not_so true is = refl
-not_so false is = absurd (cc is)
-
-no_client : (name : List ℕ) (id : BackupId) (images : List Image) → is_some (first_of_client name (entries images)) ≡ false → has_image id images ≡ true → bytes_eq name id.client ≡ false
-no_client name id [] none there = absurd (cc there)
-no_client name id (i ∷ images) none there = at (no_client name id images) (bytes_eq i.entry.id.client name) refl (same_id i.entry.id id) refl none there
-  where
-    client_same : (b c : Bool) → (b && c) ≡ true → b ≡ true
-    client_same true c is = refl
-    client_same false c is = absurd (cc is)
-
-    differs : (b : Bool) → bytes_eq name id.client ≡ b → bytes_eq i.entry.id.client name ≡ false → bytes_eq i.entry.id.client id.client ≡ true → b ≡ false
-    differs false is other same = refl
-    differs true is other same = absurd (cc (other, ap (λ (n : List ℕ). bytes_eq i.entry.id.client n) (text_is name id.client is) ∙ same))
-
-    at : (is_some (first_of_client name (entries images)) ≡ false → has_image id images ≡ true → bytes_eq name id.client ≡ false) → (b : Bool) → bytes_eq i.entry.id.client name ≡ b → (c : Bool) → same_id i.entry.id id ≡ c → is_some (if b then Some i.entry else first_of_client name (entries images)) ≡ false → (c || has_image id images) ≡ true → bytes_eq name id.client ≡ false
-    at more true here c same none' there' = absurd (cc none')
-    at more false here true same none' there' = differs (bytes_eq name id.client) refl here (client_same (bytes_eq i.entry.id.client id.client) (i.entry.id.time == id.time) same)
-    at more false here false same none' there' = more none' there'
-
--- The last id times.
-
-abbrev last_in : Option Client → ℕ
-last_in o = option_map_or (λ c. c.last) o 0
-
-missing : (o : Option Client) → is_some o ≡ false → last_in o ≡ 0
-missing None is = refl
-missing (Some c) is = absurd (cc is)
-
-below_added : (name : List ℕ) (book : Book) (images : List Image) → has client_name name book.clients ≡ false → TimesBelow book images → (id : BackupId) → has_image id images ≡ true → id.time ≤ last_in (if bytes_eq name id.client then Some (record { name = name; last = 0 }) else named client_name id.client book.clients)
-below_added name book images new below id there = at (bytes_eq name id.client) refl
-  where
-    at : (b : Bool) → bytes_eq name id.client ≡ b → id.time ≤ last_in (if b then Some (record { name = name; last = 0 }) else named client_name id.client book.clients)
-    at true same = subst (λ (k : ℕ). id.time ≤ k) (ap (λ (n : List ℕ). last_of n book) (sym (text_is name id.client same)) ∙ missing (named client_name name book.clients) new) (below id there)
-    at false differs = below id there
-
-below_removed : (name : List ℕ) (book : Book) (images : List Image) → is_some (first_of_client name (entries images)) ≡ false → TimesBelow book images → (id : BackupId) → has_image id images ≡ true → id.time ≤ last_in (if bytes_eq name id.client then None else named client_name id.client book.clients)
-below_removed name book images none below id there = at (bytes_eq name id.client) (no_client name id images none there)
-  where
-    at : (b : Bool) → b ≡ false → id.time ≤ last_in (if b then None else named client_name id.client book.clients)
-    at true is = absurd (cc is)
-    at false is = below id there
-
-below_after : (r : Request) (site : Site) (images : List Image) (stored : List Stored) → first_refusal (setting_refusals r (built site images stored)) ≡ None → TimesBelow site.book images → TimesBelow (site_after r site).book images
-below_after (request.ClientAdd name) site images stored passes below = λ id there.
-    let new : has client_name name site.book.clients ≡ false = second_false (nat_le client_limit (length site.book.clients)) (has client_name name site.book.clients) _ _ _ passes in
-    subst (λ (o : Option Client). id.time ≤ last_in o) (sym (named-put client_name (record { name = name; last = 0 }) id.client site.book.clients)) (below_added name site.book images new below id there)
-below_after (request.ClientRemove name) site images stored passes below = λ id there.
-    let none : is_some (first_of_client name (entries images)) ≡ false = third_false (not (has client_name name site.book.clients)) (is_some (lister name site.book.policies)) (is_some (first_of_client name (entries images))) _ _ _ _ passes in
-    subst (λ (o : Option Client). id.time ≤ last_in o) (sym (named-without client_name name id.client site.book.clients)) (below_removed name site.book images none below id there)
-below_after r site images stored passes below = below
-
--- The lifecycles of the policies.
-
-abbrev IsUnder : Book → Policy → Type 0
-IsUnder book p = has_lifecycle p.lifecycle book ≡ true
-
--- the policies are changed one by one, and their lifecycles stay
-whole_with : (name : List ℕ) (change : Policy → Policy) (book : Book) → ((p : Policy) → IsUnder book p → IsUnder book (change p)) → IsWhole book → IsWhole (record book { policies = map (λ p. if bytes_eq p.name name then change p else p) book.policies })
-whole_with name change book keeps whole = record { lifecycles = whole.lifecycles; unit = whole.unit; policies = each-changed policy_name (IsUnder book) name change keeps book.policies whole.policies }
-
-added_true : (b c : Bool) → c ≡ true → (if b then true else c) ≡ true
-added_true true c is = refl
-added_true false c is = is
-
-some_of : {A : Type 0} (b : Bool) (x : A) (o : Option A) → is_some (if b then Some x else o) ≡ (if b then true else is_some o)
-some_of true x o = refl
-some_of false x o = refl
-
-changes_lifecycle : (lifecycle : Option (List ℕ)) (book : Book) (p : Policy) → option_map_or (λ l. not (has_lifecycle l book)) lifecycle false ≡ false → IsUnder book p → has_lifecycle (unwrap_or lifecycle p.lifecycle) book ≡ true
-changes_lifecycle None book p there under = under
-changes_lifecycle (Some l) book p there under = not_so (has_lifecycle l book) there
-
-whole_after : (r : Request) (site : Site) (images : List Image) (stored : List Stored) → first_refusal (setting_refusals r (built site images stored)) ≡ None → IsWhole site.book → IsWhole (site_after r site).book
-whole_after (request.UnitAdd name capacity segment fragment slots high low) site images stored passes whole = record {
-  lifecycles = whole.lifecycles;
-  unit = ap is_some (named-put unit_name _ (codes "disk0") site.book.units) ∙ some_of (bytes_eq name (codes "disk0")) _ (named unit_name (codes "disk0") site.book.units) ∙ added_true (bytes_eq name (codes "disk0")) (has unit_name (codes "disk0") site.book.units) whole.unit;
-  policies = whole.policies;
-}
-whole_after (request.UnitChange name capacity slots high low) site images stored passes whole = record {
-  lifecycles = whole.lifecycles;
-  unit = has-changed unit_name name _ (λ u. refl) (codes "disk0") site.book.units ∙ whole.unit;
-  policies = whole.policies;
-}
-whole_after (request.PolicyAdd policy policy_type lifecycle) site images stored passes whole =
-    let there : not (has_lifecycle lifecycle site.book) ≡ false = third_false (nat_le policy_limit (length site.book.policies)) (has policy_name policy site.book.policies) (not (has_lifecycle lifecycle site.book)) _ _ _ _ passes in
-    record { lifecycles = whole.lifecycles; unit = whole.unit; policies = each-put policy_name (IsUnder site.book) _ site.book.policies (not_so (has_lifecycle lifecycle site.book) there) whole.policies }
-whole_after (request.PolicyChange policy active lifecycle) site images stored passes whole =
-    let there : option_map_or (λ l. not (has_lifecycle l site.book)) lifecycle false ≡ false = second_false (not (has policy_name policy site.book.policies)) (option_map_or (λ l. not (has_lifecycle l site.book)) lifecycle false) _ _ _ passes in
-    whole_with policy _ site.book (λ p under. changes_lifecycle lifecycle site.book p there under) whole
-whole_after (request.PolicyRemove policy) site images stored passes whole = record { lifecycles = whole.lifecycles; unit = whole.unit; policies = each-without policy_name (IsUnder site.book) policy site.book.policies whole.policies }
-whole_after (request.PolicyClientAdd policy client) site images stored passes whole = whole_with policy _ site.book (λ p under. under) whole
-whole_after (request.PolicyClientRemove policy client) site images stored passes whole = whole_with policy _ site.book (λ p under. under) whole
-whole_after (request.PolicySelect policy path) site images stored passes whole = whole_with policy _ site.book (λ p under. under) whole
-whole_after (request.PolicyUnselect policy path) site images stored passes whole = whole_with policy _ site.book (λ p under. under) whole
-whole_after (request.ScheduleAdd policy schedule kind frequency calendar windows) site images stored passes whole = whole_with policy _ site.book (λ p under. under) whole
-whole_after (request.ScheduleChange policy schedule kind frequency calendar windows) site images stored passes whole = whole_with policy _ site.book (λ p under. under) whole
-whole_after (request.ScheduleRemove policy schedule) site images stored passes whole = whole_with policy _ site.book (λ p under. under) whole
-whole_after r site images stored passes whole = record { lifecycles = whole.lifecycles; unit = whole.unit; policies = whole.policies }
 
 -- What set leaves.
 
@@ -181,20 +58,8 @@ module _ (old new : Index) (images : List Image) (stored : List Stored) (r : Req
     change_so = subst (SetsSite old.site r) is (passed_so s r (site_change r) [] 0 d (class_change r setting) decided passes).1
 
     module _ (made : new.site ≡ site_made change old.site) (catalogue_is : new.catalogue ≡ old.catalogue) (extents_are : new.extents ≡ old.extents) where
-      site_is : new.site ≡ site_after r old.site
-      site_is = made ∙ change_so.made
-
       pub set_so : IsSet s r old new None
-      set_so = record { first = passes; done = λ _. site_is; refused = λ a none. absurd (cc none); catalogue = catalogue_is; extents = extents_are }
-
-      pub remembered_so : (records : List Found) → Remembers records old images → Remembers records new images
-      remembered_so records remembers = record {
-        listed = remembers.listed ∙ sym catalogue_is;
-        catalogued = subst (λ (es : List (BackupId × Extent)). Catalogued records es images) (sym extents_are) remembers.catalogued;
-        sized = remembers.sized;
-        below = subst (λ (site : Site). TimesBelow site.book images) (sym site_is) (below_after r old.site images stored passes remembers.below);
-        whole = subst (λ (site : Site). IsWhole site.book) (sym site_is) (whole_after r old.site images stored passes remembers.whole);
-      }
+      set_so = record { first = passes; done = λ _. made ∙ change_so.made; refused = λ a none. absurd (cc none); catalogue = catalogue_is; extents = extents_are }
 
 -- An image that was admitted is taken out again.
 

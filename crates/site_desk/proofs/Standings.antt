@@ -9,8 +9,10 @@ use Rattle.pool_journal.specs.Entries.{Record}
 use Rattle.pool_journal.specs.Records.{Found, Reading, found, reading, Holds}
 use Rattle.pool_journal.specs.Stops.{FromBefore, with_one, IsBeforeOrAfter, Stops, Appending, Appended, Leaves, OpenStops, SameReading}
 use Rattle.desk_model.specs.State.{State, initial, durable}
+use Rattle.desk_model.specs.Sound.{Sound}
 use Rattle.site_desk.specs.Stands.{apply, applied_from, applied, stood, stands, Standing, StandsFor, Between, Opens}
 use Rattle.site_desk.specs.Desk.{KeptState, KeptMore}
+use Rattle.site_desk.proofs.SoundImages.{disk_sound}
 
 applied-push : (at : ℕ) (o : Option State) (fs : List Found) (end : ℕ) (r : Record) (s t : State) → applied_from at o fs ≡ Ok s → apply s r ≡ Some t → applied_from at o (with_one fs end r) ≡ Ok t
 applied-push at None fs end r s t is fits = absurd (cc is)
@@ -25,6 +27,10 @@ stands_by c fs s reads made = ap (λ (r : Reading). result_ok (stood r)) reads �
 
 pub standing : (d : Disk) (end : ℕ) (s : State) → KeptState d end s → s ≡ durable s → Standing d s
 standing d end s kept is = record { each = λ c left. stands_by c kept.records s (ap reading (kept.rest.durable.only c left) ∙ kept.rest.reads) kept.made ∙ ap Some is }
+
+-- what a journal at rest makes is sound
+pub kept_sound : (d : Disk) (end : ℕ) (s : State) → KeptState d end s → Sound s
+kept_sound d end s kept = (disk_sound d.seen s (stands_by d.seen kept.records s kept.rest.reads kept.made)).0
 
 pub nothing_done : (s t : State) (d : Disk) → Standing d s → Between s t d d
 nothing_done s t d standing_now = record { left = λ c left. inl (standing_now.each c left); during = started d (λ c b. StandsFor s t c × (b ≡ d.sent)) }

@@ -37,7 +37,7 @@ module _ (disk : Disk) (end : ℕ) (index : Index) (kept : Kept disk end index) 
       rest = kept.kept.rest;
       made = kept.kept.made ∙ ap (λ (site : Site). Ok (built site kept.images kept.stored)) (sym same.site);
     };
-    remembers = remembers_same kept.kept.records index index' kept.images same kept.remembers;
+    remembers = remembers_same kept.kept.records index index' kept.images same.catalogue same.extents kept.remembers;
   }
 
   pub refused_steps : (request : Request) (payload : List ℕ) (moment : ℕ) (a : Answer) (index' : Index) → SameIndex index index' → IsRefused start request payload moment a → Steps (desk_state disk index.site) request payload moment a disk disk (desk_state disk index'.site)

@@ -1,14 +1,11 @@
 -- The desk's index of its journal.
-use Rattle.std.specs.Prelude.{◌≡◌, ◌≤◌, ℕ, true, List, [], ◌∷◌, length, codes, Option, Some, None, Ok, Err, Contains}
+use Rattle.std.specs.Prelude.{◌≡◌, ℕ, List, [], length, Option, Some, None, Ok, Err, Contains}
 use Rattle.site_types.specs.declared.answer.Answer.{Answer}
 use Rattle.site_types.specs.declared.id.BackupId.{BackupId}
 use Rattle.site_types.specs.declared.request.Request.{Request}
 use Rattle.pool_journal.specs.Records.{Found}
-use Rattle.policy_book.specs.Lists.{has}
-use Rattle.policy_book.specs.Book.{Book, Policy, unit_name, basic}
-use Rattle.policy_book.specs.Changes.{has_lifecycle, last_of}
 use Rattle.desk_model.specs.declared.site.Site.{Site}
-use Rattle.desk_model.specs.State.{State, Image, Stored, initial, entries, has_image}
+use Rattle.desk_model.specs.State.{State, Image, Stored, initial, entries}
 use Rattle.desk_model.specs.Refusals.{first_refusal}
 use Rattle.desk_model.specs.Settings.{setting_refusals, site_after}
 use Rattle.site_desk.specs.Stands.{applied}
@@ -20,23 +17,11 @@ use Rattle.site_desk.specs.declared.index.Index.{Index}
 abbrev pub built : Site → List Image → List Stored → State
 built site images stored = record { site = site; images = images; stored = stored; jobs = []; next_job = 1 }
 
--- no image has a time above its client's last id time
-abbrev pub TimesBelow : Book → List Image → Type 0
-TimesBelow book images = (id : BackupId) → has_image id images ≡ true → id.time ≤ last_of id.client book
-
--- The lifecycle of each policy is there, and its unit: there is one lifecycle, since no request adds one yet.
-pub record IsWhole (book : Book) : Type 0 where
-  pub lifecycles : book.lifecycles ≡ basic ∷ []
-  pub unit : has unit_name (codes "disk0") book.units ≡ true
-  pub policies : (p : Policy) → Contains book.policies p → has_lifecycle p.lifecycle book ≡ true
-
 -- the index is of these images, whose bytes stand in these records
 pub record Remembers (records : List Found) (index : Index) (images : List Image) : Type 0 where
   pub listed : entries images ≡ index.catalogue
   pub catalogued : Catalogued records index.extents images
   pub sized : (i : Image) → Contains images i → i.entry.length ≡ length i.bytes
-  pub below : TimesBelow index.site.book images
-  pub whole : IsWhole index.site.book
 
 -- a request that changes the site was carried out, or refused so
 pub record IsSet (s : State) (request : Request) (old new : Index) (refusal : Option Answer) : Type 0 where

@@ -1,5 +1,5 @@
 // A backup at once.
-ghost use Rattle.std.specs.Prelude.{◌≡◌, ◌≢◌, ◌<◌, ◌≤◌, ◌^◌, ℕ, List, true, false, length, IfOk, OnOk, OnErr, IfErr};
+ghost use Rattle.std.specs.Prelude.{◌≡◌, ◌≢◌, ◌<◌, ◌≤◌, ◌^◌, List, true, length, IfOk, OnOk, OnErr, IfErr};
 ghost use Rattle.site_types.specs.Limits.{last_moment};
 ghost use Rattle.site_types.specs.Lines.{IsFormed};
 ghost use Rattle.site_types.specs.declared.image.Base.TheVariants as base;
@@ -7,8 +7,9 @@ ghost use Rattle.pool_journal.specs.declared.entry.Entry.TheVariants as entry;
 ghost use Rattle.pool_journal.specs.Entries.{IsStaged, body_of};
 ghost use Rattle.pool_journal.specs.Records.{Found};
 ghost use Rattle.desk_model.specs.State.{Image, Stored};
+ghost use Rattle.desk_model.specs.Sound.{Sound};
 ghost use Rattle.site_desk.specs.Index.{built, Remembers, SameIndex};
-ghost use Rattle.site_desk.specs.Desk.{IsDone, whole_of};
+ghost use Rattle.site_desk.specs.Desk.{whole_of};
 ghost use Rattle.site_desk.specs.Steps.{is_backup, IsReady, IsRefused, IsStepRefusal, IsTaken};
 
 use crate::extents::next_extent;
@@ -102,7 +103,7 @@ pub fn prepare_backup(
     requires backup { is_backup request.now ≡ true }
     requires formed { IsFormed request.now }
     requires moment { moment ≤ last_moment }
-    ensures ready { (records : List Found) (images : List Image) (stored : List Stored) → Remembers records index.old images → IfOk result (λ r. IsReady records end (built index.old.site images stored) request.now payload.now moment r.staged r.body index.new) }
+    ensures ready { (records : List Found) (images : List Image) (stored : List Stored) → Remembers records index.old images → Sound (built index.old.site images stored) → IfOk result (λ r. IsReady records end (built index.old.site images stored) request.now payload.now moment r.staged r.body index.new) }
     ensures refused { (records : List Found) (images : List Image) (stored : List Stored) → Remembers records index.old images → IfErr result (IsRefused (built index.old.site images stored) request.now payload.now moment) }
     ensures plain { IfErr result IsStepRefusal }
     ensures unchanged { OnErr result (SameIndex index.old index.new) }

@@ -27,11 +27,10 @@ pub struct Index {
 impl Index {
     ghost use Rattle.std.specs.Prelude.{List, length, Contains, true, IfOk};
     ghost use Rattle.site_types.specs.Lines.{IsFormed};
-    ghost use Rattle.pool_journal.specs.Records.{Found};
     ghost use Rattle.desk_model.specs.State.{Image, Stored, entries};
     ghost use Rattle.desk_model.specs.Settings.{is_setting};
     ghost use Rattle.site_desk.specs.Extents.{Adds};
-    ghost use Rattle.site_desk.specs.Index.{built, Remembers, IsSet, SameIndex};
+    ghost use Rattle.site_desk.specs.Index.{built, IsSet, SameIndex};
 
     /// Carries out a request that changes the site, or answers why it is refused. A refusal, and want of memory, leave all as it
     /// was.
@@ -39,7 +38,6 @@ impl Index {
         requires setting { is_setting request.now ≡ true }
         requires formed { IsFormed request.now }
         ensures set { (images : List Image) (stored : List Stored) → entries images ≡ self.old.catalogue → ((i : Image) → Contains images i → i.entry.length ≡ length i.bytes) → IfOk result (IsSet (built self.old.site images stored) request.now self.old self.new) }
-        ensures remembered { (records : List Found) (images : List Image) → Remembers records self.old images → OnOk result (Remembers records self.new images) }
         ensures unchanged { OnErr result (self.new ≡ self.old) }
     {
         let decision = decide(alloc, &self.site, &self.catalogue, request, 0, 0)?;

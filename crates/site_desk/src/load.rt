@@ -1,5 +1,5 @@
 // The requests of a site file, all of them or none.
-ghost use Rattle.std.specs.Prelude.{◌≡◌, ◌≤◌, ℕ, List, [], All, map, OnOk, IfOk, IfErr, OnErr};
+ghost use Rattle.std.specs.Prelude.{◌≡◌, ◌≤◌, ℕ, List, [], All, map, IfOk, IfErr, OnErr};
 ghost use Rattle.std.specs.List.{AllPass};
 ghost use Rattle.site_types.specs.Classes.{class_of, site_file};
 ghost use Rattle.site_types.specs.Limits.{last_moment};
@@ -62,7 +62,6 @@ fn set_each(
     requires settings { AllPass is_setting requests.now }
     requires formed { All IsFormed requests.now }
     ensures set { (images : List Image) (stored : List Stored) → AreListed index.old images → IfOk result (AreSet (all_set requests.now (built index.old.site images stored)) images index.new) }
-    ensures remembered { (records : List Found) (images : List Image) → Remembers records index.old images → OnOk result (Remembers records index.new images) }
     ensures catalogue { index.new.catalogue ≡ index.old.catalogue }
     ensures extents { index.new.extents ≡ index.old.extents }
 {
@@ -79,7 +78,8 @@ fn set_all(alloc: Global, index: &mut Index, requests: &[Request]) -> Result<(),
     requires settings { AllPass is_setting requests.now }
     requires formed { All IsFormed requests.now }
     ensures set { (images : List Image) (stored : List Stored) → AreListed index.old images → AreAllSet (all_set requests.now (built index.old.site images stored)) images index.new result }
-    ensures remembered { (records : List Found) (images : List Image) → Remembers records index.old images → OnOk result (Remembers records index.new images) }
+    ensures catalogue { index.new.catalogue ≡ index.old.catalogue }
+    ensures extents { index.new.extents ≡ index.old.extents }
     ensures plain { IfErr result IsStepRefusal }
     ensures unchanged { OnErr result (SameIndex index.old index.new) }
 {

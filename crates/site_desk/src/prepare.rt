@@ -4,6 +4,7 @@ ghost use Rattle.site_types.specs.Limits.{last_moment};
 ghost use Rattle.site_types.specs.Lines.{IsFormed};
 ghost use Rattle.pool_journal.specs.Records.{Found};
 ghost use Rattle.desk_model.specs.State.{Image, Stored};
+ghost use Rattle.desk_model.specs.Sound.{Sound};
 ghost use Rattle.site_desk.specs.Index.{built, Remembers, SameIndex};
 ghost use Rattle.site_desk.specs.Steps.{is_written, IsReady, IsRefused, IsRefusalOf};
 
@@ -35,7 +36,7 @@ pub fn prepare(
     requires written { is_written request.now ≡ true }
     requires formed { IsFormed request.now }
     requires moment { moment ≤ last_moment }
-    ensures ready { (records : List Found) (images : List Image) (stored : List Stored) → Remembers records index.old images → IfOk result (λ r. IsReady records end (built index.old.site images stored) request.now payload.now moment r.staged r.body index.new) }
+    ensures ready { (records : List Found) (images : List Image) (stored : List Stored) → Remembers records index.old images → Sound (built index.old.site images stored) → IfOk result (λ r. IsReady records end (built index.old.site images stored) request.now payload.now moment r.staged r.body index.new) }
     ensures refused { (records : List Found) (images : List Image) (stored : List Stored) → Remembers records index.old images → IfErr result (IsRefused (built index.old.site images stored) request.now payload.now moment) }
     ensures plain { IfErr result (IsRefusalOf request.now payload.now) }
     ensures unchanged { OnErr result (SameIndex index.old index.new) }

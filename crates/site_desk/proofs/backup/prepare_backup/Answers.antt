@@ -6,7 +6,7 @@ use Rattle.site_desk.proofs.backup.prepare_backup.Goals as goal
 
 pub returns-in_default-change : goal.returns-in_default-change
 returns-in_default-change c = record {
-  ready = λ records images stored remembers. tt;
+  ready = λ records images stored remembers sound. tt;
   refused = refused_here c.args.index.now c.args.request.now c.args.payload.now _ c.args.moment c.in-Ok.decision c.requires.backup refl c.in-Ok.ensures.decided (λ line body is. c.in_default-change.not-SealNow body);
   plain = refusal_plain c.args.index.now c.args.request.now c.args.payload.now _ c.args.moment c.in-Ok.decision c.requires.backup refl c.in-Ok.ensures.decided (λ line body is. c.in_default-change.not-SealNow body);
   unchanged = record { site = refl; catalogue = refl; extents = λ id. refl };
@@ -14,7 +14,7 @@ returns-in_default-change c = record {
 
 pub returns-in_default-answer : goal.returns-in_default-answer
 returns-in_default-answer c = record {
-  ready = λ records images stored remembers. tt;
+  ready = λ records images stored remembers sound. tt;
   refused = refused_here c.args.index.now c.args.request.now c.args.payload.now _ c.args.moment c.in-Ok.decision c.requires.backup refl c.in-Ok.ensures.decided (λ line body is sealed. c.in_default-answer.not-Done line is);
   plain = refusal_plain c.args.index.now c.args.request.now c.args.payload.now _ c.args.moment c.in-Ok.decision c.requires.backup refl c.in-Ok.ensures.decided (λ line body is sealed. c.in_default-answer.not-Done line is);
   unchanged = record { site = refl; catalogue = refl; extents = λ id. refl };
@@ -30,6 +30,6 @@ seal-requires-clause-base c zero_is =
     cc (sym zero_is ∙ ap (λ (w : WholeImage). w.base) c.whole_of.ensures ∙ none)
 
 pub returns-in-Ok-seal-clause-ready : goal.returns-in-Ok-seal-clause-ready
-returns-in-Ok-seal-clause-ready c records images stored remembers =
-    ready_here c.args.index.now c.args.request.now c.args.payload.now _ c.args.moment c.in-Ok.decision c.requires.backup refl c.in-Ok.ensures.decided c.in-SealNow.body c.in-SealNow.is records images stored c.args.end c.whole_of.result c.in-Ok-seal.staged c.in-Done.line c.seal.new.index remembers c.requires.moment c.whole_of.ensures c.in-Done.is
-    c.in-Ok-seal.ensures.staged (c.in-Ok-seal.ensures.taken records images stored (remembers_same records c.args.index.now _ images (record { site = refl; catalogue = refl; extents = λ id. refl }) remembers))
+returns-in-Ok-seal-clause-ready c records images stored remembers sound =
+    ready_here c.args.index.now c.args.request.now c.args.payload.now _ c.args.moment c.in-Ok.decision c.requires.backup refl c.in-Ok.ensures.decided c.in-SealNow.body c.in-SealNow.is records images stored c.args.end c.whole_of.result c.in-Ok-seal.staged c.in-Done.line c.seal.new.index remembers sound c.requires.moment c.whole_of.ensures c.in-Done.is
+    c.in-Ok-seal.ensures.staged (c.in-Ok-seal.ensures.taken records images stored (remembers_same records c.args.index.now _ images refl (λ id. refl) remembers))

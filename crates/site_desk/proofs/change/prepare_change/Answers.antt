@@ -5,7 +5,7 @@ use Rattle.site_desk.proofs.change.prepare_change.Goals as goal
 pub returns-in-Ok-None-clause-ready : goal.returns-in-Ok-None-clause-ready
 returns-in-Ok-None-clause-ready c records images stored end payload moment remembers =
     ready_here c.args.request.now c.args.index.now c.set.new.self c.in-Ok-None.field-0 c.in-Ok-None.ensures.set records images stored payload moment c.requires.setting remembers end c.in-Ok.staged c.from_vec.result c.in-Ok-None.field-0-is c.requires.formed c.in-Ok.ensures
-    (c.from_vec.ensures ∙ c.new.ensures.items) (c.in-Ok-None.ensures.remembered records images remembers)
+    (c.from_vec.ensures ∙ c.new.ensures.items)
 
 pub returns-in-Ok-Some-clause-refused : goal.returns-in-Ok-Some-clause-refused
 returns-in-Ok-Some-clause-refused c records images stored payload moment remembers =

@@ -3,6 +3,7 @@ use Rattle.std.specs.List.{AllPass}
 use Rattle.site_types.specs.declared.request.Request.{Request}
 use Rattle.pool_journal.specs.Entries.{IsStaged}
 use Rattle.desk_model.specs.Settings.{all_set, count_text, is_setting}
+use Rattle.site_desk.specs.Extents.{extent_of}
 use Rattle.site_desk.specs.Index.{built}
 use Rattle.site_desk.specs.Steps.{AreAllSet}
 use Rattle.site_desk.proofs.IndexLemmas.{remembers_same}
@@ -29,7 +30,7 @@ returns-in-Ok-set_all-clause-ready c records images stored end remembers =
     (subst (λ (rs : List Request). IsStaged (file_row rs) c.in-Ok-stage_requests.ready.staged) c.deref.ensures.value c.in-Ok-stage_requests.ensures.staged)
     (c.in-Ok-stage_requests.ensures.body ∙ ap count_text c.deref.ensures.value)
     (subst (λ (rs : List Request). AreAllSet (all_set rs (built c.args.index.now.site images stored)) images c.set_all.new.index (Ok tt)) c.deref-2.ensures.value (c.in-Ok-set_all.ensures.set images stored (record { listed = remembers.listed; sized = remembers.sized })))
-    (c.in-Ok-set_all.ensures.remembered records images (remembers_same records c.args.index.now _ images (record { site = refl; catalogue = refl; extents = λ id. refl }) remembers))
+    (remembers_same records c.args.index.now c.set_all.new.index images c.set_all.ensures.catalogue (λ id. ap (extent_of id) c.set_all.ensures.extents) remembers)
 
 pub returns-clause-refused : goal.returns-clause-refused
 returns-clause-refused c records images stored remembers =

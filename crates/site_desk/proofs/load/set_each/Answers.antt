@@ -10,9 +10,6 @@ pub returns-in-Some-clause-set : goal.returns-in-Some-clause-set
 returns-in-Some-clause-set c images stored listed =
     refused_set c.args.requests.now c.loop-request.request-index c.args.index.now c.loop-request.index c.loop-request.invariant c.request-item.result c.in_ok-refusal.field-0 c.set.new.self c.loop-request-test.true c.request-item.is c.in_ok-refusal.ensures.set c.in-Some.refusal c.in-Some.is images stored listed
 
-pub returns-in-Some-clause-remembered : goal.returns-in-Some-clause-remembered
-returns-in-Some-clause-remembered c records images remembers = c.in_ok-refusal.ensures.remembered records images (c.loop-request.invariant.remembered records images remembers)
-
 pub returns-in-Some-clause-catalogue : goal.returns-in-Some-clause-catalogue
 returns-in-Some-clause-catalogue c = (set_seen c.request-item.result c.loop-request.index c.set.new.self c.in_ok-refusal.field-0 c.in_ok-refusal.ensures.set).catalogue ∙ c.loop-request.invariant.catalogue
 
@@ -21,7 +18,7 @@ returns-in-Some-clause-extents c = (set_seen c.request-item.result c.loop-reques
 
 pub loop-request-preserved : goal.loop-request-preserved
 loop-request-preserved c =
-    next_set c.args.requests.now c.loop-request.request-index c.args.index.now c.loop-request.index c.loop-request.invariant c.request-item.result c.in_ok-refusal.field-0 c.set.new.self c.loop-request-test.true c.request-item.is c.in_ok-refusal.ensures.set c.in_default.is c.in_ok-refusal.ensures.remembered
+    next_set c.args.requests.now c.loop-request.request-index c.args.index.now c.loop-request.index c.loop-request.invariant c.request-item.result c.in_ok-refusal.field-0 c.set.new.self c.loop-request-test.true c.request-item.is c.in_ok-refusal.ensures.set c.in_default.is
 
 pub returns-clause-set : goal.returns-clause-set
 returns-clause-set c images stored listed = each_set c.args.requests.now c.loop-request.request-index c.args.index.now c.loop-request.index c.loop-request.invariant c.loop-request-test.false images stored listed

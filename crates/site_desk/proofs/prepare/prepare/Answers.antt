@@ -8,7 +8,7 @@ prepare_change-requires-clause-setting c = ap is_site_change (sym c.by_class.ens
 
 pub returns-in-SiteChange : goal.returns-in-SiteChange
 returns-in-SiteChange c = record {
-  ready = λ records images stored remembers. c.prepare_change.ensures.ready records images stored c.args.end c.args.payload.now c.args.moment remembers;
+  ready = λ records images stored remembers sound. c.prepare_change.ensures.ready records images stored c.args.end c.args.payload.now c.args.moment remembers;
   refused = λ records images stored remembers. c.prepare_change.ensures.refused records images stored c.args.payload.now c.args.moment remembers;
   plain = refusal_of c.args.request.now c.args.payload.now c.prepare_change.result c.prepare_change.ensures.plain;
   unchanged = c.prepare_change.ensures.unchanged;

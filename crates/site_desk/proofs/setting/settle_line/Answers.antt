@@ -8,4 +8,4 @@ returns-in_default c records images stored remembers = no_setting records (built
 
 pub returns : goal.returns
 returns c records images stored remembers =
-    line_settled records images stored c.args.line.now c.in-Some.request _ _ c.args.index.now c.set.new.self (sym c.in_ok-request.ensures.request ∙ c.in-Some.is) c.is_none.ensures (c.in_ok-set.ensures.set images stored remembers.listed remembers.sized) (c.in_ok-set.ensures.remembered records images remembers)
+    line_settled records images stored c.args.line.now c.in-Some.request _ _ c.args.index.now c.set.new.self (sym c.in_ok-request.ensures.request ∙ c.in-Some.is) c.is_none.ensures (c.in_ok-set.ensures.set images stored remembers.listed remembers.sized) remembers

@@ -1,7 +1,7 @@
 use Rattle.std.proofs.Common.{[], map, refl}
 use Rattle.desk_rules.specs.Seen.{blank}
 use Rattle.site_desk.proofs.Deciding.{decided_on, decided_seen}
-use Rattle.site_desk.proofs.SiteChanges.{change_so, set_so, refused_so, remembered_so}
+use Rattle.site_desk.proofs.SiteChanges.{change_so, set_so, refused_so}
 use Rattle.site_desk.proofs.index.Index.set.Goals as goal
 
 pub returns-in_default-clause-set : goal.returns-in_default-clause-set
@@ -12,11 +12,6 @@ pub returns-clause-set : goal.returns-clause-set
 returns-clause-set c images stored listed sized =
     set_so c.args.self.now _ images stored c.args.request.now c.in_ok-decision.decision c.requires.setting (decided_on c.args.self.now c.args.request.now [] 0 0 c.in_ok-decision.decision refl c.in_ok-decision.ensures.decided images stored listed sized) c.in-Settings.change c.in-Settings.is
     c.in_ok-carry_out.ensures.made refl refl
-
-pub returns-clause-remembered : goal.returns-clause-remembered
-returns-clause-remembered c records images remembers =
-    remembered_so c.args.self.now _ images [] c.args.request.now c.in_ok-decision.decision c.requires.setting (decided_on c.args.self.now c.args.request.now [] 0 0 c.in_ok-decision.decision refl c.in_ok-decision.ensures.decided images [] remembers.listed remembers.sized) c.in-Settings.change c.in-Settings.is
-    c.in_ok-carry_out.ensures.made refl refl records remembers
 
 pub carry_out-requires : goal.carry_out-requires
 carry_out-requires c =
