@@ -83,10 +83,7 @@ set_sound (request.ScheduleChange policy schedule kind frequency calendar window
     let passed = all_passed (setting_refusals (request.ScheduleChange policy schedule kind frequency calendar windows) s) none in
     schedule_is_changed s sound policy (schedule_of schedule kind frequency calendar windows) passed.1.0 passed.1.1.0
 set_sound (request.ScheduleRemove policy schedule) s sound asks none = schedule_is_removed s sound policy schedule
-set_sound (request.ZoneSet rule offset) s sound asks none = rezoned s sound (unwrap_or (zone_set (request.ZoneSet rule offset)) s.site.zone)
-set_sound request.Load s sound asks none = sound
-set_sound (request.Backup client policy schedule start) s sound asks none = sound
-set_sound (request.Restore id copy) s sound asks none = sound
+set_sound r s sound asks none = rezoned s sound (unwrap_or (zone_set r) s.site.zone)
 
 -- The requests of a site file.
 
