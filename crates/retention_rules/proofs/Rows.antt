@@ -1,5 +1,6 @@
 -- Rows of retention and cleanups, worked out on the definitions: both sides of each equation compute to one value.
 use Rattle.std.proofs.Common.{◌≡◌, ◌+◌, ℕ, List, refl, [], ◌∷◌, codes, Bool, true, false}
+use Rattle.std.specs.Prelude.{filter}
 use Rattle.site_types.specs.declared.image.Base.TheVariants as base
 use Rattle.site_types.specs.declared.image.CopyRecord.{CopyRecord}
 use Rattle.site_types.specs.declared.image.Expiry.{Expiry}
@@ -17,7 +18,7 @@ use Rattle.slp_tree.specs.Lifecycles.{Lifecycle}
 use Rattle.slp_tree.specs.Trees.{Version}
 use Rattle.retention_rules.specs.declared.cleanup.Expired.{Expired}
 use Rattle.retention_rules.specs.Eligible.{is_eligible}
-use Rattle.retention_rules.specs.Cleanup.{cleanup, prefixes}
+use Rattle.retention_rules.specs.Cleanup.{cleanup, gone_after, is_candidate, kept, prefixes, used_without}
 
 -- A unit of capacity 100 with these marks, and lifecycles with one version.
 
@@ -131,8 +132,15 @@ abbrev of_forty : List ℕ → ℕ → ImageRecord
 of_forty client time = alone client time 40 Rule
 
 -- 80 of 100 reach the high mark, and without the first image 40 meet the low one exactly
-marks : cleanup (of_forty (codes "a") 1000 ∷ of_forty (codes "b") 1000 ∷ []) by_capacity (t ∷ []) 1100 ≡ expired (codes "a") 1000 1 ∷ []
+abbrev both_of_forty : List ImageRecord
+both_of_forty = of_forty (codes "a") 1000 ∷ of_forty (codes "b") 1000 ∷ []
+
+marks : cleanup both_of_forty by_capacity (t ∷ []) 1100 ≡ expired (codes "a") 1000 1 ∷ []
 marks = refl
+
+-- behind it 40 are used
+marks_left : used_without both_of_forty (gone_after both_of_forty (filter (is_candidate by_capacity 1100) (kept both_of_forty)) (t ∷ []) []) (codes "t") ≡ 40
+marks_left = refl
 
 -- 79 don't
 below_the_mark : cleanup (of_forty (codes "a") 1000 ∷ alone (codes "b") 1000 39 Rule ∷ []) by_capacity (t ∷ []) 1100 ≡ []
