@@ -10,6 +10,12 @@ import desk
 from stand_in import StandInTest
 
 
+def heed_signals():
+    """Undoes what a shell does for a command in the background, or `nohup`: they have it ignore some signals, and so does the script."""
+    for number in (signal.SIGINT, signal.SIGTERM, signal.SIGHUP):
+        signal.signal(number, signal.SIG_DFL)
+
+
 class Build(StandInTest):
     CRATES = {"base": "", "left": "base", "right": "base", "alone": "", "unused": "base", "top": "left right", "bpdesk": "top alone"}
 
@@ -17,7 +23,14 @@ class Build(StandInTest):
         return subprocess.run([self.repository / "tools/build", *words], capture_output=True, text=True, env=self.environment(), timeout=desk.PATIENCE)
 
     def start(self, *words):
-        process = subprocess.Popen([self.repository / "tools/build", *words], stderr=subprocess.PIPE, text=True, env=self.environment(), start_new_session=True)
+        process = subprocess.Popen(
+            [self.repository / "tools/build", *words],
+            stderr=subprocess.PIPE,
+            text=True,
+            env=self.environment(),
+            start_new_session=True,
+            preexec_fn=heed_signals,
+        )
         self.addCleanup(process.stderr.close)
         return process
 
@@ -101,14 +114,16 @@ class Build(StandInTest):
             self.assertIn("logic=proved", (self.program.parent / f"log/{name}.log").read_text())
 
     def test_a_crate_that_fails_stops_the_build(self):
-        self.slow("alone", 1000)
+        for other in ("alone", "right"):
+            self.slow(other, 1000)
         self.put("crates/left/src/lib.rt", "left fails\n")
         it = self.build("--jobs", "4")
         self.assertEqual(it.returncode, 126)
         self.assertRegex(it.stderr, r"left could not be proved, after \d+ s; what rt said stands in .*/log/left.log\n\Z")
         self.assertNotIn("top", [name for _, name, _ in self.noted("begun")])
         self.put("crates/left/src/lib.rt", "left\n")
-        self.slow("alone", 0)
+        for other in ("alone", "right"):
+            self.slow(other, 0)
         self.whole(self.build("--jobs", "4"))
         self.assertEqual(self.proved().count("base"), 1)
 
