@@ -2,3 +2,4 @@ pub mod CountLemmas
 pub mod ImageLemmas
 pub mod EntryLemmas
 pub mod ChangeLemmas
+pub mod ClientLemmas

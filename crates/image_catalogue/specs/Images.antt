@@ -1,5 +1,5 @@
 -- The images of a catalogue, by client and then by time.
-use Rattle.std.specs.Prelude.{◌≡◌, ℕ, ◌+◌, Bool, ◌&&◌, ◌==◌, not, if◌then◌else◌, List, [], ◌∷◌, length, filter, find, Option, AllPairs, bytes_eq, true}
+use Rattle.std.specs.Prelude.{◌≡◌, ℕ, ◌+◌, Bool, ◌&&◌, ◌==◌, not, if◌then◌else◌, List, [], ◌∷◌, length, filter, find, Option, AllPairs, bytes_eq, nat_le, reverse, true}
 use Rattle.std.specs.Cmp.Lexicographic.{slice_cmp}
 use Rattle.std.specs.Ordering.{is_lt, then_cmp, nat_cmp}
 pub use Rattle.site_types.specs.declared.id.BackupId.{BackupId}
@@ -47,3 +47,10 @@ first_of_client client images = find (λ i. bytes_eq i.id.client client) images
 -- the first image that was made under a policy
 abbrev pub first_under : List ℕ → List ImageRecord → Option ImageRecord
 first_under policy images = find (λ i. bytes_eq i.policy policy) images
+
+-- a client's images that were made no later than a moment, the latest first
+abbrev pub is_made_by : List ℕ → ℕ → ImageRecord → Bool
+is_made_by client moment image = bytes_eq image.id.client client && nat_le image.id.time moment
+
+abbrev pub latest_first : List ℕ → ℕ → List ImageRecord → List ImageRecord
+latest_first client moment images = reverse (filter (is_made_by client moment) images)

@@ -1,15 +1,17 @@
-ghost use Rattle.std.specs.Prelude.{◌≡◌, ◌+◌, ℕ, List, [], length, None, OnOk, OnErr};
+ghost use Rattle.std.specs.Prelude.{◌≡◌, ◌+◌, ℕ, List, [], length, None, IfOk, OnOk, OnErr};
 ghost use Rattle.std.specs.Option.{option_copied};
 ghost use Rattle.site_types.specs.declared.image.ImageRecord.{ImageRecord as Record};
-ghost use Rattle.image_catalogue.specs.Images.{AreById, bytes_on, first_of_client, first_under, record_named, used, with_record, without_record};
+ghost use Rattle.image_catalogue.specs.Images.{AreById, bytes_on, first_of_client, first_under, record_named, latest_first, used, with_record, without_record};
 
 use crate::NoMemory;
+use crate::latest_first::LatestFirst;
 use crate::unit_bytes::{UnitBytes, bytes_of, counted, uncount};
 use site_types::{BackupId, ImageRecord, Name};
 use std::alloc::Global;
 use std::collections::BTreeMap;
 use std::collections::btree_map::Values;
 use std::marker::Model;
+use std::ops::Bound;
 
 // An image of any client is added to an ordered map without moving the others, so an opening of a million images, which adds
 // them one by one, isn't quadratic. The key is a copy of the image's id, and each record stays whole, so contracts still see
@@ -85,6 +87,27 @@ impl Catalogue {
         self.images
             .values()
             .find(|image| image.id.client == *client)
+    }
+
+    /// The images of a client that were made at a moment or before it, the latest first. Images of other clients aren't looked at.
+    pub fn latest_first(
+        &self,
+        alloc: Global,
+        client: &Name,
+        moment: u64,
+    ) -> Result<LatestFirst<'_>, NoMemory>
+        ensures { IfOk result (λ l. l ≡ latest_first client.now moment self.now) }
+    {
+        let first = BackupId {
+            client: client.copy(alloc)?,
+            time: 0,
+        };
+        let last = BackupId {
+            client: client.copy(alloc)?,
+            time: moment,
+        };
+        let range = (Bound::Included(&first), Bound::Included(&last));
+        Ok(LatestFirst::new(self.images.range(range)))
     }
 
     /// The first image that was made under a policy, and None exactly where there is none.

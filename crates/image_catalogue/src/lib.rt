@@ -2,9 +2,11 @@
 #![tactic(auto)]
 
 mod catalogue;
+mod latest_first;
 mod unit_bytes;
 
 pub use catalogue::Catalogue;
+pub use latest_first::LatestFirst;
 
 /// No memory was left.
 pub type NoMemory = std::alloc::AllocError;

@@ -1,0 +1,9 @@
+use Rattle.std.proofs.Common.{◌≡◌, ℕ, List, length}
+use Rattle.restore_engine.specs.Chains.{latest_whole}
+use Rattle.restore_engine.proofs.references.latest_whole.Given as goal
+
+abbrev pub invariant-loop-image : goal.invariant-loop-image
+invariant-loop-image l = (client : List ℕ) → latest_whole l.policy client l.images ≡ latest_whole l.policy client l.fn.images
+
+abbrev pub decreases-loop-image : goal.decreases-loop-image
+decreases-loop-image l = length l.images
