@@ -1,5 +1,6 @@
 use crate::form_text::{FormText, Need, gives, key_of};
 use crate::lists::{push_list, push_shown};
+use crate::site_file::explain_site_file;
 use crate::table::{FORMS, HIGH_MARK, LOW_MARK, TAKES, USAGE};
 use site_types::{LAST_MOMENT, NoMemory, Request, Text, WordFault, read_number};
 use std::alloc::{AllocError, Global};
@@ -14,9 +15,24 @@ pub fn usage(alloc: Global, missing: &str) -> Result<String, NoMemory> {
     Ok(out)
 }
 
+/// The words are a session's.
+pub fn is_session(words: &[Text]) -> bool {
+    matches!(words, [word] if word.bytes() == b"session".as_slice())
+}
+
+/// The words are those of a request whose payload is a site file.
+pub fn takes_site_file(words: &[Text]) -> bool {
+    matches!(words, [word] | [_, word] if word.bytes() == b"bpload".as_slice())
+}
+
 /// What is wrong with the words of a command, a line that says which word, and what belongs there. Words are counted from 0, as
-/// in the reply. Where no form is meant the usage stands before the line. None where the words are a session's, or a request's.
-pub fn explain(alloc: Global, words: &[Text]) -> Result<Option<String>, NoMemory> {
+/// in the reply. Where no form is meant the usage stands before the line. Where they are a request's, it is the payload that is no
+/// site file. None where the words are a session's.
+pub fn explain(
+    alloc: Global,
+    words: &[Text],
+    payload: Option<&[u8]>,
+) -> Result<Option<String>, NoMemory> {
     let Some((first, further)) = words.split_first() else {
         return Ok(Some(usage(alloc, "a request is missing")?));
     };
@@ -37,11 +53,14 @@ pub fn explain(alloc: Global, words: &[Text]) -> Result<Option<String>, NoMemory
         }
         _ => push_mistake(alloc, &mut out, words, 0)?,
     }
-    if out.is_empty() {
-        return Ok(None);
+    if !out.is_empty() {
+        out.push_str("\n")?;
+        return Ok(Some(out));
     }
-    out.push_str("\n")?;
-    Ok(Some(out))
+    match payload {
+        Some(bytes) => Ok(Some(explain_site_file(alloc, bytes)?)),
+        None => Ok(None),
+    }
 }
 
 fn push_usage(out: &mut String) -> Result<(), NoMemory> {
@@ -134,13 +153,25 @@ fn push_bad(
     index: usize,
     before: usize,
 ) -> Result<(), NoMemory> {
-    let further = words.get(form.words.len()..).unwrap_or(&[]);
+    match words.get(index) {
+        Some(word) => push_word(out, before.saturating_add(index), word)?,
+        None => out.push_str("bpdesk: ")?,
+    }
+    push_reason(alloc, out, form, words, index)
+}
+
+/// Appends why the word of this index is bad, or what all words lack where it is their number.
+pub fn push_reason(
+    alloc: Global,
+    out: &mut String,
+    form: &FormText,
+    words: &[Text],
+    index: usize,
+) -> Result<(), NoMemory> {
     let Some(word) = words.get(index) else {
-        out.push_str("bpdesk: ")?;
         push_form(out, form)?;
-        return push_missing(alloc, out, form, further);
+        return push_missing(alloc, out, form, words);
     };
-    push_word(out, before.saturating_add(index), word)?;
     match key_of(word) {
         None | Some([]) => {
             out.push_str("a word behind ")?;
@@ -199,40 +230,40 @@ fn push_missing(
     alloc: Global,
     out: &mut String,
     form: &FormText,
-    further: &[Text],
+    words: &[Text],
 ) -> Result<(), NoMemory> {
     let lacking: Vec<&str> = names(alloc, form, Need::Always)?
         .iter()
         .copied()
-        .filter(|name| !gives(further, name.as_bytes()))
+        .filter(|name| !gives(words, name.as_bytes()))
         .collect(alloc)?;
     if !lacking.is_empty() {
         out.push_str(" lacks ")?;
         return push_list(out, &lacking, "=", " and ");
     }
     let some = names(alloc, form, Need::OneOf)?;
-    if !some.is_empty() && count_given(&some, further) != 1 {
+    if !some.is_empty() && count_given(&some, words) != 1 {
         out.push_str(" takes one of ")?;
         return push_list(out, &some, "=", " and ");
     }
     let all = names(alloc, form, Need::AllOrNone)?;
-    if count_given(&all, further) == 1 {
+    if count_given(&all, words) == 1 {
         out.push_str(" takes both of ")?;
         push_list(out, &all, "=", " and ")?;
         return out.push_str(", or none");
     }
-    push_marks(out, further)
+    push_marks(out, words)
 }
 
 // Appends that the marks don't go together, of which one may be missing.
-fn push_marks(out: &mut String, further: &[Text]) -> Result<(), NoMemory> {
+fn push_marks(out: &mut String, words: &[Text]) -> Result<(), NoMemory> {
     out.push_str(": low= is below high=")?;
-    if !gives(further, b"low") {
+    if !gives(words, b"low") {
         out.push_str(", and is ")?;
         out.push_str(LOW_MARK)?;
         return out.push_str(" where it is missing");
     }
-    if !gives(further, b"high") {
+    if !gives(words, b"high") {
         out.push_str(", which is ")?;
         out.push_str(HIGH_MARK)?;
         return out.push_str(" where it is missing");
@@ -249,9 +280,9 @@ fn names(alloc: Global, form: &FormText, need: Need) -> Result<Vec<&'static str>
         .collect(alloc)
 }
 
-fn count_given(names: &[&str], further: &[Text]) -> usize {
+fn count_given(names: &[&str], words: &[Text]) -> usize {
     names
         .iter()
-        .filter(|name| gives(further, name.as_bytes()))
+        .filter(|name| gives(words, name.as_bytes()))
         .count()
 }
