@@ -30,6 +30,6 @@ test: build
 gate:
 	.ci/run
 
-# What was proved goes too: the next build takes half an hour.
+# What was proved goes too: the next build takes a good quarter of an hour.
 clean:
 	rm -rf crates/*/out

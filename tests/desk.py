@@ -30,9 +30,12 @@ def is_built():
 
 
 class Answer(NamedTuple):
+    """What a run gave, and what it has to say where it made a vault."""
+
     status: int
     out: bytes
     err: bytes
+    made: bytes = b""
 
 
 def frame(status, body):
@@ -57,14 +60,23 @@ class Desk:
         if payload is not None:
             how["input"] = payload
         how.setdefault("stdout", subprocess.PIPE)
+        made = self.made(how.get("cwd", "."))
         ran = subprocess.run(self.words(words), stderr=subprocess.PIPE, timeout=PATIENCE, **how)
-        return Answer(ran.returncode, ran.stdout, ran.stderr)
+        return Answer(ran.returncode, ran.stdout, ran.stderr, made)
+
+    def made(self, cwd="."):
+        """Returns what is said of the vault where there is none yet, so that the next run makes one."""
+        journal = Path(cwd, self.file())
+        is_there = journal.is_file() and journal.stat().st_size > 0
+        return b"" if is_there else f"bpdesk: made a new vault in {self.folder}\n".encode()
 
     def start(self, *words, **how):
         """Starts the program and returns its process, with pipes for what is not said otherwise."""
         for stream in ("stdin", "stdout", "stderr"):
             how.setdefault(stream, subprocess.PIPE)
+        made = self.made()
         process = subprocess.Popen(self.words(words), **how)
+        process.made = made
         STARTED.append(process)
         return process
 
@@ -103,9 +115,14 @@ class DeskTest(unittest.TestCase):
         self.assertEqual((answer.status, shown(answer.out)), (status, shown(out)), f"standard error: {shown(answer.err)}")
 
     def check_quiet(self, answer, status, out):
-        """The same, with nothing on standard error."""
+        """The same, with nothing on standard error but a vault that was made, and last a line on words that are refused."""
         self.check(answer, status, out)
-        self.assertEqual(answer.err, b"")
+        if status == 2 and out.startswith(b"bad request"):
+            self.assertRegex(answer.err, rb"(?m)^bpdesk: [^\n]+\n\Z")
+        elif status == 22:
+            self.assertRegex(answer.err, rb"\Abpdesk: \S+/0\.nbv is no vault; the file is left as it is\n\Z")
+        else:
+            self.assertEqual(answer.err, answer.made)
 
     def check_told(self, answer, status, out, *words):
         """The same, with one plain line on standard error that has one of the words, where words are given."""
@@ -122,7 +139,7 @@ class DeskTest(unittest.TestCase):
             process.send_signal(signal.SIGKILL)
             process.communicate()
             self.fail("the program did not end")
-        return Answer(process.returncode, out, err)
+        return Answer(process.returncode, out, err, process.made)
 
 
 def end_all():

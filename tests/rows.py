@@ -41,7 +41,7 @@ class RowsTest(DeskTest):
     def run_session(self, one, rows):
         """Runs the rows as one session."""
         answer = one.run("session", payload=b"".join(line_of(words, *payload) for words, _, _, *payload in rows))
-        self.assertEqual((answer.status, answer.err), (0, b""))
+        self.assertEqual((answer.status, answer.err), (0, answer.made))
         for row, reply in zip_longest(rows, replies_of(answer.out)):
             with self.subTest(session=row and row[0]):
                 self.assertEqual(reply, row and (row[1], body_of(row[2])))

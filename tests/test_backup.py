@@ -168,7 +168,8 @@ class Rows(DeskTest):
 
     def test_without_a_folder_the_usage_is_told(self):
         ran = subprocess.run([str(desk.PROGRAM)], input=b"", capture_output=True, timeout=desk.PATIENCE)
-        self.assertEqual((ran.returncode, ran.stdout, ran.stderr), (2, b"", b"usage: bpdesk FOLDER WORDS\n"))
+        usage = Path(desk.ROOT, "share/usage.txt").read_bytes()
+        self.assertEqual((ran.returncode, ran.stdout, ran.stderr), (2, b"", usage + b"bpdesk: a folder and a request are missing\n"))
 
     def test_a_word_that_is_no_text_has_no_reply(self):
         for words in ([self.desk.folder, b"\xff"], [b"\xff", "bprestore", "id=a_1"]):

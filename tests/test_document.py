@@ -69,7 +69,7 @@ class Document(DeskTest):
             with self.subTest(file=file):
                 one = self.new_desk()
                 answer = one.run("bpload", payload=file.encode())
-                self.assertEqual((answer.status, answer.err), (0, b""), answer.out)
+                self.assertEqual((answer.status, answer.err), (0, answer.made), answer.out)
                 (record,) = vault.read(one.bytes())
                 self.check(answer, 0, b"%d\n" % len(record.lines))
                 self.assertGreater(len(record.lines), 1)

@@ -1,29 +1,16 @@
 //! The desk of a backup site: a folder, the words of a request and a payload in, a reply and a status out.
 #![tactic(auto)]
 
-ghost use Rattle.std.specs.Prelude.{◌≡◌, map, string_bytes, IfOk};
-ghost use Rattle.std.specs.Vec.Iter.{into_iter_items};
-
-use site_types::{Answer, NoMemory, Text};
-use std::alloc::Global;
+use site_types::Answer;
 use std::env;
 use std::fs::File;
-use std::io::ErrorKind;
+use std::io::{ErrorKind, IsTerminal};
 use std::process::ExitCode;
-use vault_disk::{FolderMachine, StandardSource, SystemClock};
+use vault_disk::{FolderMachine, StandardSource, SystemClock, ToldInput};
 
 const BAD_REQUEST: u8 = 2;
 
-// The bytes of the arguments, one for one and in their order.
-fn texts(alloc: Global, arguments: env::Args) -> Result<Vec<Text>, NoMemory>
-    ensures words { IfOk result (λ words. words.items ≡ map string_bytes (into_iter_items arguments)) }
-{
-    let mut words = Vec::new(alloc);
-    for argument in arguments {
-        words.push(Text::from_vec(argument.into_bytes()))?;
-    }
-    Ok(words)
-}
+const NOT_A_VAULT: u8 = 22;
 
 fn main(rt: HostRuntime) -> ExitCode {
     // A standard stream that the caller closed leaves its number to the next file that is opened, which must be none of the vault's.
@@ -45,15 +32,32 @@ fn main(rt: HostRuntime) -> ExitCode {
     };
     let _program = arguments.next();
     let Some(folder) = arguments.next() else {
-        let _ = eprintln!(rt; "usage: bpdesk FOLDER WORDS");
+        if let Ok(usage) = shell_texts::usage(rt.alloc(), "a folder and a request are missing") {
+            let _ = eprint!(rt; "{usage}");
+        }
         return ExitCode::from(BAD_REQUEST);
     };
-    let Ok(words) = texts(rt.alloc(), arguments) else {
+    let path = String::from_str(rt.alloc(), folder.as_str());
+    let (Ok(path), Ok(words)) = (path, shell_texts::texts(rt.alloc(), arguments)) else {
         return ExitCode::from(Answer::OutOfMemory.number());
     };
-    let mut machine = FolderMachine::new(&rt, folder);
-    let mut source = StandardSource::new(rt.reader());
+    let reader = rt.reader();
+    let is_awaited = reader.is_terminal() && !shell_texts::is_session(&words);
+    let mut input = ToldInput::new(&rt, reader, is_awaited);
+    if shell_texts::takes_site_file(&words) {
+        input.keep();
+    }
+    let mut machine = FolderMachine::new(&rt, path);
+    let mut source = StandardSource::new(&mut input);
     let mut clock = SystemClock::new(&rt);
     let status = bp_cli::run(rt.alloc(), &words, &mut machine, &mut source, &mut clock);
+    if status == NOT_A_VAULT {
+        let _ = eprintln!(rt; "bpdesk: {folder}/0.nbv is no vault; the file is left as it is");
+    }
+    if status == BAD_REQUEST
+        && let Ok(Some(text)) = shell_texts::explain(rt.alloc(), &words, input.kept())
+    {
+        let _ = eprint!(rt; "{text}");
+    }
     ExitCode::from(status)
 }

@@ -1,7 +1,5 @@
-// The texts of a folder's path: the folders above it, and what is told of one that can't be used.
+// The folders above a folder, by its path.
 use std::alloc::{AllocError, Global};
-use std::io;
-use std::io::ErrorKind;
 
 // A folder, and the one above it.
 type Below<'a> = (&'a str, &'a str);
@@ -25,16 +23,5 @@ fn top_or_last<'a>(folders: &[Below<'a>], path: &str) -> &'a str {
         Some((folder, _)) => folder,
         None if path.starts_with('/') => "/",
         None => ".",
-    }
-}
-
-// The line that says why a folder isn't used.
-pub(crate) fn refusal(alloc: Global, path: &str, fault: &io::Error) -> Result<String, AllocError> {
-    match fault.kind() {
-        ErrorKind::WouldBlock => {
-            format!(in alloc; "bpdesk: the vault {path} is in use by another process")
-        }
-        _ if path.is_empty() => format!(in alloc; "bpdesk: the folder has no name"),
-        _ => format!(in alloc; "bpdesk: cannot open {path}: {fault}"),
     }
 }

@@ -1,10 +1,10 @@
 // Trusted: that a read gives the next bytes of the reader, each once, and none only where the reader has ended.
-ghost use Rattle.std.specs.Prelude.{◌≡◌, ◌≤◌, ◌-◌, ◌^◌, length, IfOk};
+ghost use Rattle.std.specs.Prelude.{◌≡◌, ◌-◌, ◌^◌};
 
 use crate::faults::{counted, raise};
+use crate::retried::read_some;
 use crate::{Failed, Source};
-use std::io;
-use std::io::{ErrorKind, Read};
+use std::io::Read;
 
 /// A source over a reader, such as standard input. It tells nothing of content, and counts its faults. After
 /// 18,446,744,073,709,551,615 bytes every read fails.
@@ -44,17 +44,4 @@ impl<T: Read + Drop> Source for StandardSource<T> {
         self.budget -= count as u64;
         Ok(count)
     }
-}
-
-// Reads again where a signal interrupts the call.
-pub(crate) fn read_some<T: Read>(reader: &mut T, into: &mut [u8]) -> io::Result<usize>
-    ensures { IfOk result (λ n. n ≤ length into.new) }
-{
-    for _turn in 0..u64::MAX {
-        match reader.read(into) {
-            Err(fault) if fault.kind() == ErrorKind::Interrupted => {}
-            read => return read,
-        }
-    }
-    Err(io::Error::from(ErrorKind::Interrupted))
 }
