@@ -95,8 +95,8 @@ module _ (digest_of : List ℕ → List ℕ) (pool : PoolState) (image : Image) 
         ∙ ap (λ (k : ℕ). take (length part) (drop k bytes)) (sym at_is);
   }
 
-  pub one_piece : (n count : ℕ) (P : ℕ → Slot → Type 0) → 1 ≤ n → from < what.length → P slot what → SomePiece pool copy at n P
-  one_piece n count P more within holds = record {
+  pub one_piece : (n : ℕ) (P : ℕ → Slot → Type 0) → 1 ≤ n → from < what.length → P slot what → SomePiece pool copy at n P
+  one_piece n P more within holds = record {
     index = index;
     slot = slot;
     what = what;
