@@ -1,17 +1,18 @@
 -- Parts of copies, and the bytes that they are.
-use Rattle.std.proofs.Common.{◌≡◌, inl, inr, ⊎_elim, ℕ, ◌+◌, ◌-◌, ◌*◌, ◌<◌, ◌≤◌, min, max, List, [], ◌++◌, length, take, drop, Some, refl, sym, ◌∙◌, ap, subst, arith, length-append, length-drop}
-use Rattle.std.specs.Prelude.{Option, ◌⊎◌, slice_get}
+use Rattle.std.proofs.Common.{◌≡◌, inl, inr, ⊎_elim, ℕ, ◌+◌, ◌-◌, ◌*◌, ◌<◌, ◌≤◌, min, max, List, [], ◌++◌, length, take, drop, Some, refl, sym, ◌∙◌, ap, subst, arith, length-append, length-drop, Ok, Err}
+use Rattle.std.specs.Prelude.{Option, Result, IfErr, IfOk, OnOk, ◌⊎◌, slice_get}
 use Rattle.std.proofs.Math.Nat.{mul-le-mul_right, mul_comm}
-use Rattle.std.proofs.Math.Seq.{take-add}
+use Rattle.std.proofs.Math.Seq.{take-add, take-append_seam}
 use Rattle.std.proofs.lemmas.Bool.{cases_lt}
 use Rattle.std.proofs.lemmas.List.{drop-drop, drop-take, length-take, take-take}
 use Rattle.vault_disk.specs.Disk.{Image}
 use Rattle.segment_pool.specs.Pieces.{pieces}
 use Rattle.segment_pool.specs.Placing.{HasPiece, IsWhole, bytes_in}
 use Rattle.segment_pool.specs.Slots.{PoolState, held}
+use Rattle.segment_pool.specs.declared.fault.ReadTrouble.{ReadTrouble}
 use Rattle.segment_pool.specs.declared.slot.Slot.{Slot}
 use Rattle.segment_pool.proofs.PieceLemmas.{piece_at}
-use Rattle.copy_fragments.specs.Copies.{Copy, IsPart, IsPlaced, Meets, SomePiece, Spells, piece_length}
+use Rattle.copy_fragments.specs.Copies.{Copy, HoldsCopy, IsPart, IsPlaced, Meets, SomePiece, Spells, StandsIn, piece_length}
 
 pub one_more : (i size : ℕ) → (i + 1) * size ≡ i * size + size
 one_more i size = omega (arith, mul_comm (i + 1) size, mul_comm i size)
@@ -71,40 +72,57 @@ of_front from count size l within =
     ∙ ap (take count) (drop-take from (size - from) l)
     ∙ take-take count (size - from) (drop from l) (let z : count ≤ size - from = omega arith in z)
 
--- bytes of a whole piece
-module _ (digest_of : List ℕ → List ℕ) (pool : PoolState) (image : Image) (copy : Copy) (at index from slot : ℕ) (what : Slot) (some : 1 ≤ copy.size) (at_is : at ≡ index * copy.size + from) (slot_is : slice_get copy.slots index ≡ Some slot) (is_held : held pool slot ≡ Some what) (length_is : what.length ≡ piece_length copy index) where
-  pub one_part : (part : List ℕ) → 1 ≤ length part → from + length part ≤ what.length → IsWhole digest_of what (bytes_in pool image slot what.length) → part ≡ take (length part) (drop from (bytes_in pool image slot what.length)) → IsPart digest_of pool image copy at part
-  one_part part more within whole part_is = record {
+-- what is read of the piece in which an offset stands
+module _ (pool : PoolState) (copy : Copy) (at slot from long : ℕ) (place : StandsIn copy at slot from long) (holds : HoldsCopy pool copy) where
+  pub held_there : (n : ℕ) → from + n ≤ long → (what : Slot) × (held pool slot ≡ Some what) × (what.length ≡ long) × (from + n ≤ long)
+  held_there n le = let there = holds place.index slot place.slot_is in (there.0, there.1, there.2 ∙ sym place.length_is, le)
+
+  one_part : (digest_of : List ℕ → List ℕ) (image : Image) (part : List ℕ) → 1 ≤ length part → from + length part ≤ long → ((what : Slot) → held pool slot ≡ Some what → IsWhole digest_of what (bytes_in pool image slot long)) → part ≡ take (length part) (drop from (bytes_in pool image slot long)) → IsPart digest_of pool image copy at part
+  one_part digest_of image part more within whole part_is = record {
     whole = λ i s w meets s_is w_is.
-        let same : i ≡ index = omega (arith, meets, at_is, within, length_is, no_later i index copy.size, no_later index i copy.size) in
-        let same_slot : s ≡ slot = cc (ap (λ (k : ℕ). slice_get copy.slots k) same, s_is, slot_is) in
-        let same_what : w ≡ what = cc (ap (λ (k : ℕ). held pool k) same_slot, w_is, is_held) in
+        let same : i ≡ place.index = omega (arith, meets, place.at_is, within, place.length_is, no_later i place.index copy.size, no_later place.index i copy.size) in
+        let same_slot : s ≡ slot = cc (ap (λ (k : ℕ). slice_get copy.slots k) same, s_is, place.slot_is) in
+        let w_is' : held pool slot ≡ Some w = ap (λ (k : ℕ). held pool k) (sym same_slot) ∙ w_is in
+        let there = holds place.index slot place.slot_is in
+        let long_is : w.length ≡ long = ap (λ (x : Slot). x.length) (let z : w ≡ there.0 = cc (w_is', there.1) in z) ∙ there.2 ∙ sym place.length_is in
         subst (λ (k : ℕ). IsWhole digest_of w (bytes_in pool image k w.length)) (sym same_slot)
-        (subst (λ (x : Slot). IsWhole digest_of x (bytes_in pool image slot x.length)) (sym same_what) whole);
+        (subst (λ (k : ℕ). IsWhole digest_of w (bytes_in pool image slot k)) (sym long_is) (whole w w_is'));
     bytes_are = λ bytes spells.
-        let meets : Meets copy at (length part) index = omega (arith, at_is, within, length_is, more) in
-        let begins : index * copy.size < copy.length = omega (arith, at_is, within, length_is, more) in
-        let told = spells.pieces_are index slot meets slot_is in
-        let here = piece_of copy bytes index some spells.length_is begins in
-        let equal : bytes_in pool image slot (piece_length copy index) ≡ take copy.size (drop (index * copy.size) bytes) = cc (told, here) in
+        let meets : Meets copy at (length part) place.index = omega (arith, place.at_is, within, place.length_is, more) in
+        let begins : place.index * copy.size < copy.length = omega (arith, place.at_is, within, place.length_is, more) in
+        let told = spells.pieces_are place.index slot meets place.slot_is in
+        let here = piece_of copy bytes place.index place.some spells.length_is begins in
+        let equal : bytes_in pool image slot (piece_length copy place.index) ≡ take copy.size (drop (place.index * copy.size) bytes) = cc (told, here) in
         part_is
-        ∙ ap (λ (k : ℕ). take (length part) (drop from (bytes_in pool image slot k))) length_is
+        ∙ ap (λ (k : ℕ). take (length part) (drop from (bytes_in pool image slot k))) place.length_is
         ∙ ap (λ (l : List ℕ). take (length part) (drop from l)) equal
-        ∙ of_front from (length part) copy.size (drop (index * copy.size) bytes) (let z : from + length part ≤ copy.size = omega (arith, within, length_is) in z)
-        ∙ ap (take (length part)) (drop-drop from (index * copy.size) bytes)
-        ∙ ap (λ (k : ℕ). take (length part) (drop k bytes)) (sym at_is);
+        ∙ of_front from (length part) copy.size (drop (place.index * copy.size) bytes) (let z : from + length part ≤ copy.size = omega (arith, within, place.length_is) in z)
+        ∙ ap (take (length part)) (drop-drop from (place.index * copy.size) bytes)
+        ∙ ap (λ (k : ℕ). take (length part) (drop k bytes)) (sym place.at_is);
   }
 
-  pub one_piece : (n : ℕ) (P : ℕ → Slot → Type 0) → 1 ≤ n → from < what.length → P slot what → SomePiece pool copy at n P
-  one_piece n P more within holds = record {
-    index = index;
-    slot = slot;
-    what = what;
-    meets = omega (arith, at_is, within, length_is, more);
-    slot_is = slot_is;
-    is_held = is_held;
-    holds = holds;
-  }
+  pub parts_there : {E : Type 0} (digest_of : List ℕ → List ℕ) (image : Image) (k : ℕ) (part rest : List ℕ) (r : Result ℕ E) → 1 ≤ k → from + k ≤ long → length part ≡ k → IfOk r (λ n. n ≡ k)
+      → ((what : Slot) → held pool slot ≡ Some what → OnOk r (IsWhole digest_of what (bytes_in pool image slot long))) → OnOk r (part ≡ take k (drop from (bytes_in pool image slot long)))
+      → IfOk r (λ n. IsPart digest_of pool image copy at (take n (part ++ rest)))
+  parts_there digest_of image k part rest (Ok n) more within long_is n_is whole part_is =
+      subst (λ (l : List ℕ). IsPart digest_of pool image copy at l) (sym (ap (λ (j : ℕ). take j (part ++ rest)) (n_is ∙ sym long_is) ∙ take-append_seam part rest))
+      (one_part digest_of image part (let z : 1 ≤ length part = omega (arith, more, long_is) in z) (let z : from + length part ≤ long = omega (arith, within, long_is) in z) whole
+      (part_is ∙ ap (λ (j : ℕ). take j (drop from (bytes_in pool image slot long))) (sym long_is)))
+  parts_there digest_of image k part rest (Err e) more within long_is n_is whole part_is = tt
+
+  pub trouble_there : {T : Type 0} (n : ℕ) (P : ℕ → Slot → ReadTrouble → Type 0) (r : Result T ReadTrouble) → 1 ≤ n → ((what : Slot) → held pool slot ≡ Some what → IfErr r (P slot what)) → IfErr r (λ t. SomePiece pool copy at n (λ s w. P s w t))
+  trouble_there n P (Ok v) some all = tt
+  trouble_there n P (Err t) some all =
+      let there = holds place.index slot place.slot_is in
+      record {
+        index = place.index;
+        slot = slot;
+        what = there.0;
+        meets = omega (arith, place.at_is, place.within, place.length_is, some);
+        slot_is = place.slot_is;
+        is_held = there.1;
+        holds = all there.0 there.1;
+      }
 
 -- placed bytes are those that the pieces of a part spell
 pub placed_spells : (digest_of : List ℕ → List ℕ) (pool : PoolState) (image : Image) (copy : Copy) (at n : ℕ) (bytes : List ℕ) → 1 ≤ copy.size → IsPlaced digest_of pool image copy bytes → Spells pool image copy at n bytes
@@ -114,5 +132,6 @@ placed_spells digest_of pool image copy at n bytes some placed = record {
       let begins : index * copy.size < copy.length = omega (arith, meets) in
       let here = piece_of copy bytes index some placed.length_is begins in
       let has = placed.has_pieces index slot (take copy.size (drop (index * copy.size) bytes)) slot_is here in
-      here ∙ ap (λ (l : List ℕ). Some l) (sym has.bytes_are ∙ ap (bytes_in pool image slot) (has.length_is ∙ piece_long copy bytes index placed.length_is));
+      let piece : take copy.size (drop (index * copy.size) bytes) ≡ bytes_in pool image slot (piece_length copy index) = sym has.bytes_are ∙ ap (bytes_in pool image slot) (has.length_is ∙ piece_long copy bytes index placed.length_is) in
+      here ∙ ap (λ (l : List ℕ). Some l) piece;
 }

@@ -38,6 +38,15 @@ fragment_length copy index = if nat_lt (index * span copy) copy.length then Some
 abbrev pub HoldsCopy : PoolState → Copy → Type 0
 HoldsCopy pool copy = (index slot : ℕ) → slice_get copy.slots index ≡ Some slot → (what : Slot) × (held pool slot ≡ Some what) × (what.length ≡ piece_length copy index)
 
+-- an offset stands so far into the piece of this slot and length
+pub record StandsIn (copy : Copy) (at slot from length : ℕ) : Type 0 where
+  pub index : ℕ
+  pub at_is : at ≡ index * copy.size + from
+  pub slot_is : slice_get copy.slots index ≡ Some slot
+  pub length_is : length ≡ piece_length copy index
+  pub within : from < length
+  pub some : 1 ≤ copy.size
+
 -- how many bytes the copy has from an offset on, for which there is room
 abbrev pub part_length : Copy → ℕ → ℕ → ℕ
 part_length copy at room = min room (copy.length - at)

@@ -1,11 +1,13 @@
-ghost use Rattle.std.specs.Prelude.{◌≡◌, ◌+◌, ◌-◌, ◌*◌, ◌<◌, ◌≤◌, ℕ, List, length, take, drop, min, slice_get, Some, IfOk, IfErr, MatchResult};
+ghost use Rattle.std.specs.Prelude.{◌≡◌, ◌+◌, ◌-◌, ◌*◌, ◌<◌, ◌≤◌, ◌^◌, ℕ, List, length, take, drop, min, slice_get, Some, IfOk, IfErr, OnOk, IsTrue, ◌↔◌, MatchResult};
 ghost use Rattle.vault_disk.specs.Disk.{IsSame};
 ghost use Rattle.vault_disk.specs.Steps.{LookedAround};
 ghost use Rattle.segment_pool.specs.Faults.{TroubleHolds, TroubleOf};
 ghost use Rattle.segment_pool.specs.Placing.{IsTruePool};
 ghost use Rattle.segment_pool.specs.Slots.{held};
-ghost use Rattle.copy_fragments.specs.Copies.{HoldsCopy, IsPart, IsPieceCount, IsPlaced, SomePiece, fragment_length, part_length, piece_length};
+ghost use Rattle.segment_pool.specs.declared.slot.Slot.{Slot as Known};
+ghost use Rattle.copy_fragments.specs.Copies.{HoldsCopy, IsPart, IsPieceCount, IsPlaced, SomePiece, StandsIn, fragment_length, part_length, piece_length};
 
+use crate::place::Place;
 use segment_pool::{Fingerprint, Pool, ReadTrouble};
 use std::marker::Model;
 use vault_disk::Vault;
@@ -16,7 +18,7 @@ pub struct CopyMap {
     slots: Vec<u32>,
     size: u32,
     per_fragment: u32,
-    length: u64,
+    bytes: u64,
 }
 
 impl Model for CopyMap {
@@ -25,24 +27,24 @@ impl Model for CopyMap {
 
     ghost Value = { Copy };
 
-    ghost view = { λ c. record { slots = c.slots.items; size = c.size; per_fragment = c.per_fragment; length = c.length } };
+    ghost view = { λ c. record { slots = c.slots.items; size = c.size; per_fragment = c.per_fragment; length = c.bytes } };
 
-    ghost invariant = { λ c. (1 ≤ c.size) × (1 ≤ c.per_fragment) × IsPieceCount (length c.slots.items) c.size c.length };
+    ghost invariant = { λ c. (1 ≤ c.size) × (1 ≤ c.per_fragment) × IsPieceCount (length c.slots.items) c.size c.bytes };
 }
 
 impl CopyMap {
-    /// A copy of `length` bytes, whose pieces of `size` bytes are in these slots and make fragments of `per_fragment` pieces.
-    pub fn new(slots: Vec<u32>, size: u32, per_fragment: u32, length: u64) -> CopyMap
+    /// A copy of so many bytes, whose pieces of `size` bytes are in these slots and make fragments of `per_fragment` pieces.
+    pub fn new(slots: Vec<u32>, size: u32, per_fragment: u32, bytes: u64) -> CopyMap
         requires size { 1 ≤ size }
         requires some { 1 ≤ per_fragment }
-        requires pieces { IsPieceCount (length slots.items) size length }
-        ensures { result ≡ record { slots = slots.items; size = size; per_fragment = per_fragment; length = length } }
+        requires pieces { IsPieceCount (length slots.items) size bytes }
+        ensures { result ≡ record { slots = slots.items; size = size; per_fragment = per_fragment; length = bytes } }
     {
         CopyMap {
             slots,
             size,
             per_fragment,
-            length,
+            bytes,
         }
     }
 
@@ -57,7 +59,7 @@ impl CopyMap {
     pub fn length(&self) -> u64
         ensures { result ≡ self.now.length }
     {
-        self.length
+        self.bytes
     }
 
     /// The length of a fragment in bytes, and None exactly past the last. A copy of no bytes has no fragment.
@@ -65,9 +67,9 @@ impl CopyMap {
         ensures { result ≡ fragment_length self.now index }
     {
         let span = self.size as u64 * self.per_fragment as u64;
-        let start = span.checked_mul(index as u64)?;
-        if start < self.length {
-            Some(span.min(self.length - start))
+        let start = span as u128 * index as u128;
+        if start < self.bytes as u128 {
+            Some(span.min(self.bytes - start as u64))
         } else {
             None
         }
@@ -78,8 +80,33 @@ impl CopyMap {
         requires { index * self.now.size < self.now.length }
         ensures { result ≡ piece_length self.now index }
     {
-        let rest = self.length - index * self.size as u64;
+        let rest = self.bytes - index * self.size as u64;
         rest.min(self.size as u64) as u32
+    }
+
+    /// Whether the pool holds each piece of the copy, with its length.
+    pub fn is_held<F: Fingerprint>(&self, pool: &Pool<F>) -> bool
+        ensures { IsTrue result ↔ HoldsCopy pool.now self.now }
+    {
+        let mut index = 0;
+        while index < self.slots.len() {
+            if !self.has_piece(pool, index as u64, self.slots[index]) {
+                return false;
+            }
+            index += 1;
+        }
+        true
+    }
+
+    // Whether the pool holds a slot with the length of the piece at an index.
+    fn has_piece<F: Fingerprint>(&self, pool: &Pool<F>, index: u64, slot: u32) -> bool
+        requires { index * self.now.size < self.now.length }
+        ensures { IsTrue result ↔ ((what : Known) × (held pool.now slot ≡ Some what) × (what.length ≡ piece_length self.now index)) }
+    {
+        match pool.held(slot) {
+            Some(what) => what.length == self.piece_length(index),
+            None => false,
+        }
     }
 
     /// Reads the copy from offset `at` on until the slice is full or the copy ends, and says how many bytes it read: 0 at or past
@@ -107,12 +134,34 @@ impl CopyMap {
         ensures looked { (V.disk vault.old).tells → LookedAround (V.disk vault.old) (V.disk vault.new) }
         ensures same { IsSame (V.disk vault.old) (V.disk vault.new) }
     {
-        let count = self.length.saturating_sub(at).min(into.len() as u64) as usize;
+        let count = self.bytes.saturating_sub(at).min(into.len() as u64) as usize;
+        self.fill(pool, vault, at, &mut into[..count])
+    }
+
+    // Fills the slice with the copy's bytes from offset `at` on, a piece a turn.
+    fn fill<V: Vault, F: Fingerprint>(
+        &self,
+        pool: &mut Pool<F>,
+        vault: &mut V,
+        at: u64,
+        into: &mut [u8],
+    ) -> Result<usize, ReadTrouble>
+        requires held { HoldsCopy pool.old self.now }
+        requires within { length into.old ≤ self.now.length - at }
+        requires fits { at + length into.old < 2 ^ 64 }
+        ensures pool { pool.new ≡ pool.old }
+        ensures count { IfOk result (λ n. n ≡ length into.old) }
+        ensures part { (V.disk vault.old).tells → OnOk result (IsPart F.digest_of pool.old (V.disk vault.old).seen self.now at into.new) }
+        ensures told { (V.disk vault.old).tells → IfErr result (λ trouble. SomePiece pool.old self.now at (length into.old) (λ slot _. TroubleHolds F.digest_of pool.old (V.disk vault.old).seen slot trouble)) }
+        ensures cause { IfErr result (λ trouble. SomePiece pool.old self.now at (length into.old) (λ _ what. TroubleOf what.digest (V.disk vault.old).faults (V.disk vault.new).faults trouble)) }
+        ensures looked { (V.disk vault.old).tells → LookedAround (V.disk vault.old) (V.disk vault.new) }
+        ensures same { IsSame (V.disk vault.old) (V.disk vault.new) }
+    {
         let mut done = 0;
-        while done < count {
-            done += self.read_piece(pool, vault, at + done as u64, &mut into[done..count])?;
+        while done < into.len() {
+            done += self.read_piece(pool, vault, at + done as u64, &mut into[done..])?;
         }
-        Ok(count)
+        Ok(done)
     }
 
     // Reads the piece at offset `at` from there on, as far as there is room for it.
@@ -134,17 +183,29 @@ impl CopyMap {
         ensures looked { (V.disk vault.old).tells → LookedAround (V.disk vault.old) (V.disk vault.new) }
         ensures same { IsSame (V.disk vault.old) (V.disk vault.new) }
     {
-        let index = at / self.size as u64;
-        let from = (at % self.size as u64) as u32;
-        let slot = self.slots[index as usize];
-        let length = self.piece_length(index);
-        let count = into.len().min((length - from) as usize);
-        let part = &mut into[..count];
-        if count == length as usize {
-            pool.read_into(vault, slot, part)?;
-        } else {
-            pool.read_part(vault, slot, from, part)?;
-        }
-        Ok(count)
+        let place = self.place_of(at);
+        let count = into.len().min((place.length - place.from) as usize);
+        place.read(pool, vault, &mut into[..count])
     }
+
+    // The piece in which an offset of the copy stands.
+    fn place_of(&self, at: u64) -> Place
+        requires { at < self.now.length }
+        ensures { StandsIn self.now at result.slot result.from result.length }
+    {
+        let index = at / self.size as u64;
+        Place {
+            slot: self.slots[index as usize],
+            from: (at % self.size as u64) as u32,
+            length: self.piece_length(index),
+        }
+    }
+}
+
+/// How many pieces of this size so many bytes have.
+pub fn piece_count(bytes: u64, size: u32) -> u64
+    requires { 1 ≤ size }
+    ensures { IsPieceCount result size bytes }
+{
+    bytes.div_ceil(size as u64)
 }

@@ -4,5 +4,6 @@
 #![tactic(auto)]
 
 mod copy_map;
+mod place;
 
-pub use copy_map::CopyMap;
+pub use copy_map::{CopyMap, piece_count};
