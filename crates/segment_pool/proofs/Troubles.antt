@@ -13,7 +13,7 @@ use Rattle.segment_pool.specs.declared.fault.ReadTrouble.TheVariants as trouble
 use Rattle.segment_pool.specs.declared.slot.Slot.{Slot}
 use Rattle.segment_pool.specs.Slots.{PoolState, held}
 use Rattle.segment_pool.specs.Placing.{bytes_in, HasPiece, IsDamaged, IsTruePool, IsWhole, DiffersFrom}
-use Rattle.segment_pool.specs.Faults.{TroubleHolds, TroubleOf, TroubleRose, TroubleSomewhere, FaultHolds, FaultTold, fault_of_trouble, IsDamage, IsDiskFault}
+use Rattle.segment_pool.specs.Faults.{TroubleHolds, TroubleOf, TroubleSomewhere, FaultHolds, FaultTold, fault_of_trouble, IsDamage, IsDiskFault}
 
 pub one_known : (pool : PoolState) (slot : ℕ) (x y : Slot) → held pool slot ≡ Some x → held pool slot ≡ Some y → x ≡ y
 one_known pool slot x y a b = cc (a, b)

@@ -19,16 +19,12 @@ abbrev pub TroubleHolds : (List ℕ → List ℕ) → PoolState → Image → �
 TroubleHolds digest_of pool image slot trouble.DiskFault = Unit {0}
 TroubleHolds digest_of pool image slot (trouble.Damaged recorded found) = IsDamaged digest_of pool image slot recorded found
 
--- a read fails by the disk only where the count of faults rose
-abbrev pub TroubleRose : ℕ → ℕ → ReadTrouble → Type 0
-TroubleRose before now trouble.DiskFault = Rose before now
-TroubleRose before now (trouble.Damaged recorded found) = Unit {0}
-
 -- the same of some slot
 abbrev pub TroubleSomewhere : (List ℕ → List ℕ) → PoolState → Image → ReadTrouble → Type 0
 TroubleSomewhere digest_of pool image t = (slot : ℕ) × TroubleHolds digest_of pool image slot t
 
--- when a search for a digest may fail so, over any vault
+-- when a read of a slot with this digest may fail so, over any vault: by the disk only where the count of faults rose, by damage
+-- with this digest as the recorded one
 abbrev pub TroubleOf : List ℕ → ℕ → ℕ → ReadTrouble → Type 0
 TroubleOf digest before now trouble.DiskFault = Rose before now
 TroubleOf digest before now (trouble.Damaged recorded found) = recorded ≡ digest

@@ -97,6 +97,10 @@ pub record Placed (old new : PoolState) (slot length : ℕ) (digest : List ℕ) 
   pub fits : number_held old < old.slots
   pub now : Becomes old new slot (Some (pinned_piece length digest))
 
+-- no slot is pinned more often than this
+abbrev pub IsPinnedAtMost : ℕ → PoolState → Type 0
+IsPinnedAtMost most pool = (slot : ℕ) (what : Slot) → held pool slot ≡ Some what → what.pins ≤ most
+
 -- each held slot is live or pinned, and its piece has from 1 to this many bytes
 abbrev pub AreSound : ℕ → List (Option Slot) → Type 0
 AreSound size table = (slot : ℕ) (what : Slot) → at_slot table slot ≡ Some what → (1 ≤ what.length) × (what.length ≤ size) × (while_held what ≡ Some what)

@@ -1,10 +1,10 @@
 ghost use Rattle.std.specs.Prelude.{◌≡◌, ◌≢◌, ◌⊎◌, ◌+◌, ◌-◌, ◌*◌, ◌<◌, ◌≤◌, ◌^◌, [], ℕ, List, length, take, drop, option_map, true, false, if◌then◌else◌, IfOk, IfErr, OnOk, OnErr, IfSome, IsSome, IsTrue, ◌↔◌, MatchOption, MatchBool, None, Some};
 ghost use Rattle.vault_disk.specs.Disk.{IsSame};
 ghost use Rattle.vault_disk.specs.Steps.{Changes, LookedAround, written};
-ghost use Rattle.segment_pool.specs.Faults.{FaultHolds, FaultTold, IsDamage, IsDiskFault, TroubleHolds, TroubleOf, TroubleRose, TroubleSomewhere};
+ghost use Rattle.segment_pool.specs.Faults.{FaultHolds, FaultTold, IsDamage, IsDiskFault, TroubleHolds, TroubleOf, TroubleSomewhere};
 ghost use Rattle.segment_pool.specs.Index.{IsNextBelow, bits_of, leading_bits};
 ghost use Rattle.segment_pool.specs.Placing.{HasPiece, IsTruePool, IsWhole, KeepsPieces, LacksPiece, TornIn, Touches, bytes_in};
-ghost use Rattle.segment_pool.specs.Slots.{AreSound, Becomes, IsAsBefore, IsEnd, IsLowestFree, Matches, PinnedAgain, Placed, PoolState, count_of, held, live_piece, made_live, number_held, pinned_piece, spare, while_held};
+ghost use Rattle.segment_pool.specs.Slots.{AreSound, Becomes, IsAsBefore, IsEnd, IsLowestFree, IsPinnedAtMost, Matches, PinnedAgain, Placed, PoolState, count_of, held, live_piece, made_live, number_held, pinned_piece, spare, while_held};
 ghost use Rattle.segment_pool.specs.declared.slot.Slot.{Slot as Known};
 
 use crate::NoMemory;
@@ -198,6 +198,7 @@ impl<F: Fingerprint> Pool<F> {
         requires digest { F.digest_of piece.now ≡ digest }
         requires pins { (slot : ℕ) (what : Known) → held self.old slot ≡ Some what → what.pins < 2 ^ 64 - 1 }
         ensures pinned { IfOk result (λ slot. PinnedAgain self.old self.new slot (length piece.now) digest ⊎ Placed self.old self.new slot (length piece.now) digest) }
+        ensures pins { (most : ℕ) → IsPinnedAtMost most self.old → IsPinnedAtMost (most + 1) self.new }
         ensures ways { (V.disk vault.old).tells → IfOk result (λ slot. HasPiece F.digest_of self.old (V.disk vault.old).seen slot piece.now ⊎ Placed self.old self.new slot (length piece.now) digest) }
         ensures refused { OnErr result (IsAsBefore self.old self.new) }
         ensures cause { IfErr result (FaultHolds self.old digest (V.disk vault.old).faults (V.disk vault.new).faults) }
@@ -480,7 +481,7 @@ impl<F: Fingerprint> Pool<F> {
         ensures whole { (V.disk vault.old).tells → (what : Known) → held self.old slot ≡ Some what → OnOk result (IsWhole F.digest_of what into.new) }
         ensures told { (V.disk vault.old).tells → IfErr result (TroubleHolds F.digest_of self.old (V.disk vault.old).seen slot) }
         ensures undamaged { (V.disk vault.old).tells → IsTruePool F.digest_of self.old (V.disk vault.old).seen → IfErr result (λ trouble. trouble ≡ ReadTrouble.DiskFault) }
-        ensures cause { IfErr result (TroubleRose (V.disk vault.old).faults (V.disk vault.new).faults) }
+        ensures cause { (what : Known) → held self.old slot ≡ Some what → IfErr result (TroubleOf what.digest (V.disk vault.old).faults (V.disk vault.new).faults) }
         ensures looked { (V.disk vault.old).tells → LookedAround (V.disk vault.old) (V.disk vault.new) }
         ensures same { IsSame (V.disk vault.old) (V.disk vault.new) }
     {
@@ -506,7 +507,7 @@ impl<F: Fingerprint> Pool<F> {
         ensures whole { (V.disk vault.old).tells → (what : Known) → held self.old slot ≡ Some what → OnOk result (IsWhole F.digest_of what (bytes_in self.old (V.disk vault.old).seen slot what.length)) }
         ensures err { OnErr result (into.new ≡ into.old) }
         ensures told { (V.disk vault.old).tells → IfErr result (TroubleHolds F.digest_of self.old (V.disk vault.old).seen slot) }
-        ensures cause { IfErr result (TroubleRose (V.disk vault.old).faults (V.disk vault.new).faults) }
+        ensures cause { (what : Known) → held self.old slot ≡ Some what → IfErr result (TroubleOf what.digest (V.disk vault.old).faults (V.disk vault.new).faults) }
         ensures looked { (V.disk vault.old).tells → LookedAround (V.disk vault.old) (V.disk vault.new) }
         ensures same { IsSame (V.disk vault.old) (V.disk vault.new) }
     {

@@ -4,8 +4,6 @@ ghost use Rattle.std.specs.Prelude.{◌≡◌, ◌||◌, nat_lt};
 /// What a pool knows of a held slot: it is live or pinned.
 #[derive(Clone, Copy, Debug)]
 pub struct Slot {
-    /// A sealed copy names it, or did until it expired.
-    pub live: bool,
     /// How many jobs need it.
     pub pins: u64,
     /// How often kept copies name it. It is 0 for a slot that isn't live.
@@ -14,6 +12,8 @@ pub struct Slot {
     pub length: u32,
     /// The digest of its piece.
     pub digest: [u8; 32],
+    /// A sealed copy names it, or did until it expired.
+    pub live: bool,
 }
 
 impl Slot {

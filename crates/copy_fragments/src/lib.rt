@@ -1,0 +1,9 @@
+//! Copies of byte strings as lists of the slots in which a pool holds their pieces, and reads of them.
+//!
+//! Reading takes no memory. A piece is handed on only where all of its bytes were read and have its recorded digest.
+#![tactic(auto)]
+
+mod copy_map;
+mod place;
+
+pub use copy_map::{CopyMap, piece_count};
