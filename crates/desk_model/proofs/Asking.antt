@@ -1,24 +1,19 @@
 -- What is known of a request that words ask for.
-use Rattle.std.proofs.Common.{◌≡◌, ◌≤◌, ◌<◌, ◌∙◌, ℕ, Bool, true, false, List, refl, ap, subst, arith}
-use Rattle.std.specs.Prelude.{Option, Some, None, Ok, unwrap_or, if◌then◌else◌, nat_le, nat_lt, ◌&&◌, drop}
-use Rattle.std.specs.List.{slice_split}
-use Rattle.std.specs.Option.{option_and_then}
-use Rattle.std.proofs.lemmas.Bool.Decides.{nat_tests}
-use Rattle.site_types.specs.Forms.{forms, form_named, unit_add_of, unit_change_of, are_marks, capacity_key, segment_key, fragment_key, slots_key, high_key, low_key, name_key}
+use Rattle.desk_model.proofs.Common.{◌≡◌, ◌≤◌, ◌<◌, ◌∙◌, ℕ, Bool, true, false, List, refl, ap, subst, arith, Option, Some, None, Ok, unwrap_or, if◌then◌else◌, nat_le, nat_lt, ◌&&◌, slice_split, option_and_then, nat_tests, form_named, unit_add_of, unit_change_of, are_marks, capacity_key, segment_key, fragment_key, slots_key, high_key, low_key, name_key, Request, IsNumberOf}
+use Rattle.std.specs.Prelude.{drop}
+use Rattle.site_types.specs.Forms.{forms}
 use Rattle.site_types.specs.Keys.{Key, Given, given_among, value_in, number_in, name_of}
 use Rattle.site_types.specs.Lines.{IsFormed, is_space, line_of, read_line}
 use Rattle.site_types.specs.Numbers.{number_up_to, at_least, number_between}
 use Rattle.site_types.specs.Requests.{read_words}
 use Rattle.site_types.specs.declared.forms.FormName.{FormName}
 use Rattle.site_types.specs.declared.forms.FormName.TheVariants as form
-use Rattle.site_types.specs.declared.request.Request.{Request}
 use Rattle.site_types.specs.declared.request.Request.TheVariants as request
 use Rattle.site_types.proofs.OptionLemmas.{guarded}
 use Rattle.site_types.proofs.RereadLemmas.{read_parts}
 use Rattle.site_types.proofs.Rereading.{reread}
 use Rattle.policy_book.specs.declared.units.NewUnit.{NewUnit}
 use Rattle.policy_book.specs.declared.units.UnitChange.{UnitChange}
-use Rattle.desk_model.specs.Sound.{IsNumberOf}
 
 -- a number that is given is one that its key may have
 abbrev pub IsGiven : Key → Option ℕ → Type 0

@@ -1,26 +1,16 @@
 -- Images by their ids.
-use Rattle.std.proofs.Common.{◌≡◌, ◌<◌, ◌+◌, ◌∙◌, ℕ, zero, suc, Bool, true, false, List, [], ◌∷◌, length, get_or, refl, sym, ap, subst, arith}
-use Rattle.std.specs.Prelude.{Some, None, is_some, cond, if◌then◌else◌, ◌==◌, ◌&&◌, ◌||◌, Contains}
-use Rattle.std.specs.Str.{bytes_eq}
+use Rattle.desk_model.proofs.Common.{◌≡◌, ◌<◌, ◌+◌, ◌∙◌, ℕ, zero, suc, Bool, true, false, List, [], ◌∷◌, length, get_or, refl, sym, ap, subst, arith, Some, None, is_some, cond, if◌then◌else◌, ◌==◌, ◌&&◌, ◌||◌, Contains, bytes_eq, All, false≢true, and_parts, nat_tests, length-map, get_or-map, bytes_eq-Decides, BackupId, AreById, same_id, is_before, record_named, with_record, Image, has_image, image_named, with_image, entries}
 use Rattle.std.specs.Cmp.{IsTotalOrder, tied_then, unsigned_tied}
 use Rattle.std.specs.Cmp.Lexicographic.{slice_cmp}
-use Rattle.std.specs.List.{All}
 use Rattle.std.specs.Ordering.{nat_cmp, is_eq, is_lt, ordering_reverse}
 use Rattle.std.specs.declared.cmp.Ordering.{Ordering}
 use Rattle.std.specs.declared.cmp.Ordering.TheVariants.{Less, Equal, Greater}
-use Rattle.std.proofs.lemmas.Bool.{false≢true, and_parts}
-use Rattle.std.proofs.lemmas.Bool.Decides.{nat_tests}
 use Rattle.std.proofs.lemmas.Cmp.{nat_list_cmp_total, nat_cmp_total, then_total, on_total, tied_itself}
-use Rattle.std.proofs.lemmas.List.{length-map, get_or-map}
 use Rattle.std.proofs.lemmas.List.Kept.{AllPairs-cons}
 use Rattle.std.proofs.lemmas.Map.Text.{is_eq-slice_cmp}
-use Rattle.std.proofs.lemmas.Slice.Eq.{bytes_eq-Decides}
-use Rattle.site_types.specs.declared.id.BackupId.{BackupId}
 use Rattle.site_types.specs.declared.image.ImageRecord.{ImageRecord}
-use Rattle.image_catalogue.specs.Images.{AreById, same_id, is_before, record_named, with_record}
 use Rattle.image_catalogue.proofs.ImageLemmas.{none_found, length_with}
 use Rattle.image_catalogue.proofs.EntryLemmas.{id_cmp}
-use Rattle.desk_model.specs.State.{Image, has_image, image_named, with_image, entries}
 
 -- the same ids are equal
 pub same_is : (a b : BackupId) → same_id a b ≡ true → a ≡ b

@@ -1,19 +1,12 @@
 -- Lists by name that are changed.
-use Rattle.std.proofs.Common.{◌≡◌, ◌≤◌, ◌<◌, ◌∙◌, ℕ, zero, suc, Bool, true, false, List, [], ◌∷◌, length, get_or, refl, sym, ap, subst, arith}
-use Rattle.std.specs.Prelude.{Option, Some, None, is_some, not, if◌then◌else◌, Contains}
-use Rattle.std.specs.Str.{bytes_eq}
+use Rattle.desk_model.proofs.Common.{◌≡◌, ◌≤◌, ◌<◌, ◌∙◌, ℕ, zero, suc, Bool, true, false, List, [], ◌∷◌, length, get_or, refl, sym, ap, subst, arith, Option, Some, None, is_some, not, if◌then◌else◌, Contains, bytes_eq, false≢true, get_or_default, length-set, bytes_eq-Decides, AreByName, named, has, put, without, changed, text_is, named_at, put_at, named-put}
 use Rattle.std.specs.Cmp.Lexicographic.{slice_cmp}
 use Rattle.std.specs.Ordering.{match_ordering, nat_cmp, is_eq}
 use Rattle.std.specs.declared.cmp.Ordering.{Ordering}
 use Rattle.std.specs.declared.cmp.Ordering.TheVariants.{Less, Equal, Greater}
-use Rattle.std.proofs.lemmas.Bool.{false≢true}
 use Rattle.std.proofs.lemmas.Cmp.{nat_list_cmp_total, tied_itself}
-use Rattle.std.proofs.lemmas.List.{get_or_default, length-set}
 use Rattle.std.proofs.lemmas.Map.Text.{is_eq-slice_cmp}
-use Rattle.std.proofs.lemmas.Slice.Eq.{bytes_eq-Decides}
-use Rattle.policy_book.specs.Lists.{AreByName, named, has, put, without, changed}
 use Rattle.slp_tree.specs.Places.{StandsAt}
-use Rattle.slp_tree.proofs.ListLemmas.{text_is, named_at, put_at, named-put}
 
 module _ {A : Type 0} (name_of : A → List ℕ) where
   pub has-put : (new : A) (other : List ℕ) (xs : List A) → has name_of other xs ≡ true → has name_of other (put name_of new xs) ≡ true

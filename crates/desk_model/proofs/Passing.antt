@@ -1,10 +1,5 @@
 -- A request that nothing refuses, and a name that no element has.
-use Rattle.std.proofs.Common.{◌≡◌, zero, suc, Bool, true, false, List, [], ◌∷◌, refl, sym, ◌∙◌, ap, arith}
-use Rattle.std.specs.Prelude.{Option, Some, None, is_none, is_some, cond, if◌then◌else◌, map, find, Contains}
-use Rattle.std.proofs.lemmas.Bool.{false≢true}
-use Rattle.std.proofs.lemmas.List.{length-map, get_or-map}
-use Rattle.site_types.specs.declared.answer.Answer.{Answer}
-use Rattle.desk_model.specs.Refusals.{first_refusal}
+use Rattle.desk_model.proofs.Common.{◌≡◌, zero, suc, Bool, true, false, List, [], ◌∷◌, refl, sym, ◌∙◌, ap, arith, Option, Some, None, is_none, is_some, cond, if◌then◌else◌, map, find, Contains, false≢true, length-map, get_or-map, Answer, first_refusal}
 
 abbrev pub ArePassed : List (Bool × Answer) → Type 0
 ArePassed [] = Unit {0}

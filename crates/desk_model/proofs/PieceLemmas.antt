@@ -1,16 +1,8 @@
 -- Pieces of byte strings, and sets of them.
-use Rattle.std.proofs.Common.{◌≡◌, ◌≢◌, ◌≤◌, ◌∙◌, ℕ, zero, suc, Bool, true, false, List, [], ◌∷◌, ◌++◌, length, get_or, take, drop, min, refl, sym, subst, arith}
-use Rattle.std.specs.Prelude.{if◌then◌else◌, Contains}
-use Rattle.std.specs.List.{AllPairs, list_any}
-use Rattle.std.specs.Str.{bytes_eq}
-use Rattle.std.proofs.lemmas.Bool.{false≢true}
-use Rattle.std.proofs.lemmas.List.{length-take}
+use Rattle.desk_model.proofs.Common.{◌≡◌, ◌≢◌, ◌≤◌, ◌∙◌, ℕ, zero, suc, Bool, true, false, List, [], ◌∷◌, ◌++◌, length, get_or, take, drop, min, refl, sym, subst, arith, if◌then◌else◌, Contains, AllPairs, list_any, bytes_eq, false≢true, length-take, bytes_eq-Decides, ⊎_elim, blocks, pieces, with_piece, with_pieces}
 use Rattle.std.proofs.lemmas.List.Elements.{Contains-append_left, Contains-push, Contains-push_cases}
 use Rattle.std.proofs.lemmas.List.Folds.{Any-from_list_any, list_any_at}
 use Rattle.std.proofs.lemmas.List.Quantifiers.{all_pairs_push}
-use Rattle.std.proofs.lemmas.Slice.Eq.{bytes_eq-Decides}
-use Rattle.std.proofs.Common.{⊎_elim}
-use Rattle.desk_model.specs.Pieces.{blocks, pieces, with_piece, with_pieces}
 
 -- each block has from one byte to a segment's
 blocks_sized : (n size : ℕ) (bytes : List ℕ) → 1 ≤ size → (piece : List ℕ) → Contains (blocks n size bytes) piece → (1 ≤ length piece) × (length piece ≤ size)

@@ -1,18 +1,9 @@
 -- In a sound state each kept copy restores the bytes of its image.
-use Rattle.std.proofs.Common.{◌≡◌, ◌∙◌, ℕ, Bool, true, false, [], ◌∷◌, length, refl, ap}
-use Rattle.std.specs.Prelude.{Option, Some, None, nat_lt, not, ◌==◌, if◌then◌else◌, codes, Contains}
-use Rattle.std.proofs.lemmas.Bool.Decides.{nat_tests}
+use Rattle.desk_model.proofs.Common.{◌≡◌, ◌∙◌, ℕ, Bool, true, false, [], ◌∷◌, length, refl, ap, Option, Some, None, nat_lt, not, ◌==◌, if◌then◌else◌, Contains, nat_tests, arith, payload_limit, Answer, CopyRecord, State, Image, step_of, first_refusal, unless_refused, has_copy, wanted_number, restore_case, Sound, KeepsCopies, given_back}
+use Rattle.std.specs.Prelude.{codes}
 use Rattle.std.proofs.lemmas.List.Folds.{list_any_at}
-use Rattle.std.proofs.Common.{arith}
 use Rattle.site_types.specs.Ids.{copy_text}
-use Rattle.site_types.specs.Limits.{payload_limit}
-use Rattle.site_types.specs.declared.answer.Answer.{Answer}
 use Rattle.site_types.specs.declared.answer.Answer.TheVariants.{Done, Unknown, TooMany}
-use Rattle.site_types.specs.declared.image.CopyRecord.{CopyRecord}
-use Rattle.desk_model.specs.State.{State, Image}
-use Rattle.desk_model.specs.Refusals.{step_of, first_refusal, unless_refused}
-use Rattle.desk_model.specs.Step.{has_copy, wanted_number, restore_case}
-use Rattle.desk_model.specs.Sound.{Sound, KeepsCopies, given_back}
 use Rattle.desk_model.proofs.ImageLists.{named_in}
 
 -- the copy that is wanted is kept

@@ -1,19 +1,12 @@
 -- Rows of the table of requests, worked out on the definitions: both sides of each equation compute to one value.
-use Rattle.std.proofs.Common.{◌≡◌, ℕ, List, refl, [], ◌∷◌, codes, false}
+use Rattle.desk_model.proofs.Common.{◌≡◌, ℕ, List, refl, [], ◌∷◌, codes, false, Option, Some, None, replicate, unwrap_or, Answer, BackupId, Request, State, initial, load_of, step}
 use Rattle.std.specs.Fmt.{digits}
-use Rattle.std.specs.Prelude.{Option, Some, None, replicate, unwrap_or}
 use Rattle.std.specs.Result.{result_ok}
 use Rattle.site_types.specs.Forms.{forms}
 use Rattle.site_types.specs.Lines.{read_line}
-use Rattle.site_types.specs.declared.answer.Answer.{Answer}
 use Rattle.site_types.specs.declared.answer.Answer.TheVariants.{Done, Exists, Unknown, InUse, Inactive, WindowClosed, AboveHigh, UnitFull}
-use Rattle.site_types.specs.declared.id.BackupId.{BackupId}
-use Rattle.site_types.specs.declared.request.Request.{Request}
 use Rattle.site_types.specs.declared.request.Request.TheVariants as request
 use Rattle.site_types.specs.declared.schedule.Start.TheVariants.{Scheduled}
-use Rattle.desk_model.specs.State.{State, initial}
-use Rattle.desk_model.specs.Settings.{load_of}
-use Rattle.desk_model.specs.Step.{step}
 
 -- what is answered, and the state afterwards, of a request with no payload at moment 1000
 abbrev answer : State → Request → Answer

@@ -1,23 +1,11 @@
 -- The rules of operations, and the states of an image that is sealed under them.
-use Rattle.std.proofs.Common.{◌≡◌, ◌≢◌, ◌≤◌, ◌-◌, ◌∙◌, ℕ, zero, suc, Bool, true, false, List, [], ◌∷◌, length, refl, sym, ap, arith}
-use Rattle.std.specs.Prelude.{Option, Some, None, if◌then◌else◌, cond, is_some, unwrap_or, not, ◌||◌, ◌==◌, map, find, option_map, slice_get, Contains}
-use Rattle.std.specs.List.{AllByRecursion, list_any}
-use Rattle.std.specs.Str.{bytes_eq}
-use Rattle.std.proofs.lemmas.Bool.{false≢true, not-false, not_from_true, or_parts, or_from}
-use Rattle.std.proofs.lemmas.Bool.Decides.{nat_tests}
-use Rattle.std.proofs.lemmas.List.{length-map}
+use Rattle.desk_model.proofs.Common.{◌≡◌, ◌≢◌, ◌≤◌, ◌-◌, ◌∙◌, ℕ, zero, suc, Bool, true, false, List, [], ◌∷◌, length, refl, sym, ap, arith, Option, Some, None, if◌then◌else◌, cond, is_some, unwrap_or, not, ◌||◌, ◌==◌, map, find, option_map, slice_get, Contains, AllByRecursion, list_any, bytes_eq, false≢true, not-false, not_from_true, or_parts, or_from, nat_tests, length-map, StorageUnit, Operation, named, has, Book, unit_name, has_lifecycle, operations_of, operations_in, latest_version, states_of, IsSoundLifecycle, has_version, HasSource}
 use Rattle.std.proofs.lemmas.Option.{slice_get_within, get_or_from_slice_get}
-use Rattle.site_types.specs.declared.unit.Unit.{Unit as StorageUnit}
-use Rattle.site_types.specs.declared.lifecycle.Operation.{Operation}
 use Rattle.site_types.specs.declared.lifecycle.OpState.{OpState}
 use Rattle.site_types.specs.declared.lifecycle.OpState.TheVariants.{Waiting, Cancelled}
 use Rattle.slp_tree.specs.Trees.{Version, broken_rule, broken_rules, has_unknown_unit, waits, completed, children, needed}
 use Rattle.slp_tree.specs.Lifecycles.{Lifecycle, lifecycle_named, version_in}
-use Rattle.policy_book.specs.Lists.{named, has}
-use Rattle.policy_book.specs.Book.{Book, unit_name}
-use Rattle.policy_book.specs.Changes.{has_lifecycle}
-use Rattle.desk_model.specs.Backups.{operations_of, operations_in, unit_of, latest_version, states_of}
-use Rattle.desk_model.specs.Sound.{IsSoundLifecycle, has_version, HasSource}
+use Rattle.desk_model.specs.Backups.{unit_of}
 use Rattle.desk_model.proofs.NamedLemmas.{found_named}
 
 pub get_contains : {A : Type 0} (xs : List A) (k : ℕ) (x : A) → slice_get xs k ≡ Some x → Contains xs x

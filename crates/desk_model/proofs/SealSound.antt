@@ -1,31 +1,11 @@
 -- An image that fits keeps a state sound.
-use Rattle.std.proofs.Common.{◌≡◌, ◌≤◌, ◌<◌, ◌+◌, ◌∙◌, ℕ, zero, suc, max, Bool, true, false, List, length, refl, sym, ap, subst, arith}
-use Rattle.std.specs.Prelude.{Option, Some, None, is_some, unwrap_or, if◌then◌else◌, option_map, slice_get, Contains}
-use Rattle.std.specs.Option.{option_map_or}
-use Rattle.std.specs.Str.{bytes_eq}
-use Rattle.std.proofs.lemmas.Bool.{false≢true}
-use Rattle.std.proofs.lemmas.Slice.Eq.{bytes_eq-Decides}
-use Rattle.site_types.specs.Limits.{last_moment}
-use Rattle.site_types.specs.declared.id.BackupId.{BackupId}
+use Rattle.desk_model.proofs.Common.{◌≡◌, ◌≤◌, ◌<◌, ◌+◌, ◌∙◌, ℕ, zero, suc, max, Bool, true, false, List, length, refl, sym, ap, subst, arith, Option, Some, None, is_some, unwrap_or, if◌then◌else◌, option_map, slice_get, Contains, option_map_or, bytes_eq, false≢true, bytes_eq-Decides, last_moment, BackupId, CopyRecord, Operation, StorageUnit, Client, named, has, put, Book, unit_name, client_name, policy_name, client_limit, disk0, last_of, AreById, record_named, pieces, State, Image, Stored, entries, has_image, with_stored, image_limit, takes_all, is_known, operations_in, unit_at, sealed_entry, sealed, has_copy, Sound, IsSoundImage, IsSoundCopy, IsSoundSet, IsSoundBook, IsBase, has_version, text_is}
 use Rattle.site_types.specs.declared.image.Base.{Base}
 use Rattle.site_types.specs.declared.image.Kind.{Kind}
-use Rattle.site_types.specs.declared.image.CopyRecord.{CopyRecord}
 use Rattle.site_types.specs.declared.image.Expiry.TheVariants as expiry
 use Rattle.site_types.specs.declared.image.ImageRecord.{ImageRecord}
-use Rattle.site_types.specs.declared.lifecycle.Operation.{Operation}
-use Rattle.site_types.specs.declared.unit.Unit.{Unit as StorageUnit}
-use Rattle.policy_book.specs.declared.client.Client.{Client}
-use Rattle.policy_book.specs.Lists.{named, has, put}
-use Rattle.policy_book.specs.Book.{Book, unit_name, client_name, policy_name, client_limit, disk0}
-use Rattle.policy_book.specs.Changes.{last_of}
-use Rattle.image_catalogue.specs.Images.{AreById, record_named}
-use Rattle.desk_model.specs.Pieces.{pieces}
-use Rattle.desk_model.specs.State.{State, Image, Stored, entries, has_image, with_stored}
-use Rattle.desk_model.specs.Backups.{image_limit, takes_all, is_known, operations_in, unit_of, unit_at, sealed_entry, sealed}
-use Rattle.desk_model.specs.Step.{has_copy}
-use Rattle.desk_model.specs.Sound.{Sound, IsSoundImage, IsSoundCopy, IsSoundSet, IsSoundBook, IsBase, has_version}
+use Rattle.desk_model.specs.Backups.{unit_of}
 use Rattle.desk_model.proofs.NamedLemmas.{has-put, has-new, length-put, length-replaced, some_named, found_named}
-use Rattle.slp_tree.proofs.ListLemmas.{text_is}
 use Rattle.desk_model.proofs.PieceLemmas.{pieces_sized, each_piece, distinct_all}
 use Rattle.desk_model.proofs.StoredLemmas.{set_name, more_in, stored_length, stored_places, each_stored, stored_grows, stored_there}
 use Rattle.desk_model.proofs.ImageLists.{entries-with, length-image, has_entry, each-with, ids_with}

@@ -1,29 +1,10 @@
 -- Each change of the site keeps a state sound.
-use Rattle.std.proofs.Common.{◌≡◌, ◌≤◌, ◌<◌, ◌∙◌, ℕ, suc, Bool, true, false, List, [], ◌∷◌, ◌++◌, length, refl, sym, ap, subst, arith, ⊎_elim}
-use Rattle.std.specs.Prelude.{Option, Some, None, is_some, unwrap_or, not, ◌&&◌, nat_le, if◌then◌else◌, Contains}
-use Rattle.std.specs.Option.{option_map_or}
-use Rattle.std.specs.Str.{bytes_eq}
-use Rattle.std.proofs.lemmas.Bool.{false≢true, not-false}
-use Rattle.std.proofs.lemmas.Bool.Decides.{nat_tests}
-use Rattle.std.proofs.lemmas.List.{length_push}
+use Rattle.desk_model.proofs.Common.{◌≡◌, ◌≤◌, ◌<◌, ◌∙◌, ℕ, suc, Bool, true, false, List, [], ◌∷◌, ◌++◌, length, refl, sym, ap, subst, arith, ⊎_elim, Option, Some, None, is_some, unwrap_or, not, ◌&&◌, nat_le, if◌then◌else◌, Contains, option_map_or, bytes_eq, false≢true, not-false, nat_tests, length_push, bytes_eq-Decides, are_marks, segment_key, fragment_key, slots_key, capacity_key, high_key, last_moment, StorageUnit, Client, AreByName, named, has, put, without, changed, itself, Policy, Book, unit_name, client_name, policy_name, schedule_name, unit_limit, client_limit, policy_limit, listed_limit, selection_limit, schedule_limit, disk0, unit_of, unit_added, unit_with, unit_changed, client_added, lister, client_removed, last_of, has_lifecycle, policy_added, with_policy, policy_with, policy_removed, clients_of, with_listed, without_listed, selections_of, with_path, without_path, schedules_of, is_full, breaks_rule_8, with_schedule, without_schedule, rising_put, rising_without, named-put, text_is, first_of_client, first_under, State, Image, Stored, entries, is_known, Sound, IsSoundUnit, IsSoundPolicy, IsSoundBook, IsSoundSet, IsNumberOf, HasSet, stored_on}
 use Rattle.std.proofs.lemmas.List.Elements.{Contains-push_cases}
-use Rattle.std.proofs.lemmas.Slice.Eq.{bytes_eq-Decides}
-use Rattle.site_types.specs.Forms.{are_marks, segment_key, fragment_key, slots_key, capacity_key, high_key}
 use Rattle.site_types.specs.Keys.{Key}
-use Rattle.site_types.specs.Limits.{last_moment}
 use Rattle.site_types.specs.declared.schedule.Schedule.{Schedule}
-use Rattle.site_types.specs.declared.unit.Unit.{Unit as StorageUnit}
-use Rattle.policy_book.specs.declared.client.Client.{Client}
 use Rattle.policy_book.specs.declared.units.NewUnit.{NewUnit}
 use Rattle.policy_book.specs.declared.units.UnitChange.{UnitChange}
-use Rattle.policy_book.specs.Lists.{AreByName, named, has, put, without, changed, itself}
-use Rattle.policy_book.specs.Book.{Policy, Book, unit_name, client_name, policy_name, schedule_name, unit_limit, client_limit, policy_limit, listed_limit, selection_limit, schedule_limit, disk0}
-use Rattle.policy_book.specs.Changes.{unit_of, unit_added, unit_with, unit_changed, client_added, lister, client_removed, last_of, has_lifecycle, policy_added, with_policy, policy_with, policy_removed, clients_of, with_listed, without_listed, selections_of, with_path, without_path, schedules_of, is_full, breaks_rule_8, with_schedule, without_schedule}
-use Rattle.slp_tree.proofs.ListLemmas.{rising_put, rising_without, named-put, text_is}
-use Rattle.image_catalogue.specs.Images.{first_of_client, first_under}
-use Rattle.desk_model.specs.State.{State, Image, Stored, entries}
-use Rattle.desk_model.specs.Backups.{is_known}
-use Rattle.desk_model.specs.Sound.{Sound, IsSoundUnit, IsSoundPolicy, IsSoundBook, IsSoundSet, IsNumberOf, HasSet, stored_on}
 use Rattle.desk_model.proofs.NamedLemmas.{named-changed, has-put, has-new, has-without, has-changed, named-without, has-contained, named-contained, length-put, length-added, length-replaced, length-without, length-changed, rising-changed, each-put, each-changed, each-changed-named, each-without, some_named}
 use Rattle.desk_model.proofs.StoredLemmas.{stored_pushed, places_pushed, place_pushed}
 use Rattle.desk_model.proofs.Passing.{none_passes, mapped_in}

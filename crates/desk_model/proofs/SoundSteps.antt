@@ -1,34 +1,16 @@
 -- Each step keeps a state sound.
-use Rattle.std.proofs.Common.{rules, ◌≡◌, ◌≤◌, ◌<◌, ◌∙◌, ℕ, zero, suc, Bool, true, false, List, [], ◌∷◌, length, refl, sym, ap, subst, arith}
-use Rattle.std.specs.Prelude.{Option, Some, None, Result, Ok, Err, is_some, unwrap_or, not, ◌&&◌, nat_le, nat_lt, fold, Contains}
-use Rattle.std.specs.Option.{option_map_or}
+use Rattle.desk_model.proofs.Common.{rules, ◌≡◌, ◌≤◌, ◌<◌, ◌∙◌, ℕ, zero, suc, Bool, true, false, List, [], ◌∷◌, length, refl, sym, ap, subst, arith, Option, Some, None, Result, Ok, Err, is_some, unwrap_or, not, ◌&&◌, nat_le, nat_lt, fold, Contains, option_map_or, is_utf8, false≢true, nat_tests, last_moment, Answer, BackupId, Request, has, Policy, Book, policy_name, client_limit, adhoc, manual, last_of, State, initial, Image, Job, has_image, Case, first_refusal, unless_refused, step_of, Asked, asked_of, image_limit, takes_all, is_known, last_time, later_job, latest_version, policy_asked, schedule_asked, backup_refusals, backup_image, backup_case, setting_refusals, set_by, zone_set, all_set, state_of, file_requests, file_case, case_of, step, Sound, has_version}
 use Rattle.std.specs.Result.{result_ok}
-use Rattle.std.specs.Str.{is_utf8}
-use Rattle.std.proofs.lemmas.Bool.{false≢true}
-use Rattle.std.proofs.lemmas.Bool.Decides.{nat_tests}
 use Rattle.site_types.specs.Classes.{RequestClass, site_change, site_file, backup, restore, class_of}
-use Rattle.site_types.specs.Limits.{last_moment}
 use Rattle.site_types.specs.Requests.{read_words}
-use Rattle.site_types.specs.declared.answer.Answer.{Answer}
-use Rattle.site_types.specs.declared.id.BackupId.{BackupId}
 use Rattle.site_types.specs.declared.image.Base.TheVariants as base
-use Rattle.site_types.specs.declared.request.Request.{Request}
 use Rattle.site_types.specs.declared.request.Request.TheVariants as request
 use Rattle.site_types.specs.declared.schedule.Schedule.{Schedule}
 use Rattle.site_types.proofs.OptionLemmas.{guarded, chained, mapped}
 use Rattle.schedule_windows.specs.Zones.{ZoneOf}
 use Rattle.policy_book.specs.Kinds.{takes_files}
-use Rattle.policy_book.specs.Lists.{has}
-use Rattle.policy_book.specs.Book.{Policy, Book, policy_name, client_limit, adhoc, manual}
-use Rattle.policy_book.specs.Changes.{last_of}
 use Rattle.policy_book.specs.Requests.{schedule_of}
 use Rattle.policy_book.specs.SiteFile.{Line, change_in, change_read, changes_site, requests_of, site_requests}
-use Rattle.desk_model.specs.State.{State, initial, Image, Job, has_image}
-use Rattle.desk_model.specs.Refusals.{Case, first_refusal, unless_refused, step_of}
-use Rattle.desk_model.specs.Backups.{Asked, asked_of, image_limit, takes_all, is_known, last_time, later_job, latest_version, policy_asked, schedule_asked, backup_refusals, backup_image, backup_case}
-use Rattle.desk_model.specs.Settings.{setting_refusals, set_by, zone_set, all_set, state_of, file_requests, file_case}
-use Rattle.desk_model.specs.Step.{case_of, step}
-use Rattle.desk_model.specs.Sound.{Sound, has_version}
 use Rattle.desk_model.proofs.NamedLemmas.{found_named}
 use Rattle.desk_model.proofs.Passing.{all_passed, there_is}
 use Rattle.desk_model.proofs.ImageLists.{has_one}

@@ -1,20 +1,8 @@
 -- What a change of the site leaves sound.
-use Rattle.std.proofs.Common.{◌≡◌, ◌≤◌, ◌-◌, ℕ, true, List, length, refl, sym, subst, arith}
-use Rattle.std.specs.Prelude.{Option, Some, None, option_map, slice_get, Contains}
-use Rattle.site_types.specs.declared.unit.Unit.{Unit as StorageUnit}
-use Rattle.site_types.specs.declared.image.CopyRecord.{CopyRecord}
-use Rattle.site_types.specs.declared.lifecycle.Operation.{Operation}
+use Rattle.desk_model.proofs.Common.{◌≡◌, ◌≤◌, ◌-◌, ℕ, true, List, length, refl, sym, subst, arith, Option, Some, None, option_map, slice_get, Contains, StorageUnit, CopyRecord, Operation, Client, has, Policy, Book, unit_name, policy_name, last_of, pieces, State, Image, Stored, is_known, unit_at, Sound, IsSoundBook, IsSoundLifecycle, IsSoundPolicy, IsSoundSet, IsSoundImage, IsSoundCopy, stored_on, operations_kept}
 use Rattle.schedule_windows.specs.Zones.{ZoneOf}
 use Rattle.slp_tree.specs.Lifecycles.{Lifecycle}
-use Rattle.policy_book.specs.declared.client.Client.{Client}
-use Rattle.policy_book.specs.Lists.{has}
-use Rattle.policy_book.specs.Book.{Policy, Book, unit_name, policy_name}
-use Rattle.policy_book.specs.Changes.{last_of}
 use Rattle.desk_model.specs.declared.site.Site.{Site}
-use Rattle.desk_model.specs.Pieces.{pieces}
-use Rattle.desk_model.specs.State.{State, Image, Stored}
-use Rattle.desk_model.specs.Backups.{is_known, unit_at}
-use Rattle.desk_model.specs.Sound.{Sound, IsSoundBook, IsSoundLifecycle, IsSoundPolicy, IsSoundSet, IsSoundImage, IsSoundCopy, stored_on, operations_kept}
 use Rattle.desk_model.proofs.RuleLemmas.{unit_there, all_known, rules_kept, rules_hold}
 
 -- a site with other units, clients and policies

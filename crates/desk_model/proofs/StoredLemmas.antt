@@ -1,13 +1,5 @@
 -- The sets of pieces that are stored.
-use Rattle.std.proofs.Common.{◌≡◌, ◌∙◌, ℕ, zero, suc, Bool, true, false, List, [], ◌∷◌, ◌++◌, length, refl, sym, ap, subst, arith}
-use Rattle.std.specs.Prelude.{Some, if◌then◌else◌, option_map, slice_get, Contains}
-use Rattle.std.specs.Str.{bytes_eq}
-use Rattle.std.proofs.lemmas.Bool.{false≢true}
-use Rattle.std.proofs.lemmas.Slice.Eq.{bytes_eq-Decides}
-use Rattle.desk_model.specs.Pieces.{with_pieces}
-use Rattle.desk_model.specs.State.{Stored, with_stored}
-use Rattle.desk_model.specs.Sound.{stored_on}
-use Rattle.slp_tree.proofs.ListLemmas.{text_is}
+use Rattle.desk_model.proofs.Common.{◌≡◌, ◌∙◌, ℕ, zero, suc, Bool, true, false, List, [], ◌∷◌, ◌++◌, length, refl, sym, ap, subst, arith, Some, if◌then◌else◌, option_map, slice_get, Contains, bytes_eq, false≢true, bytes_eq-Decides, with_pieces, Stored, with_stored, stored_on, text_is}
 use Rattle.desk_model.proofs.PieceLemmas.{among_all, among_more}
 
 abbrev pub set_name : Stored → List ℕ

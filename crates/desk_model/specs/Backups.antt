@@ -31,7 +31,7 @@ use Rattle.policy_book.specs.Changes.{pair_text, is_full, last_of, client_sealed
 use Rattle.image_catalogue.specs.Images.{used}
 use Rattle.desk_model.specs.Pieces.{pieces}
 use Rattle.desk_model.specs.State.{State, Image, Job, backup, duplication, restore, entries, with_image, with_stored}
-use Rattle.desk_model.specs.Refusals.{Case, step_of}
+use Rattle.desk_model.specs.Refusals.{Case}
 
 -- how many images may be kept
 abbrev pub image_limit : ℕ
@@ -198,6 +198,3 @@ asked_of client policy schedule start size = record { client = client; policy = 
 
 abbrev pub backup_case : Asked → List ℕ → ℕ → State → Case
 backup_case asked payload moment s = record { refusals = backup_refusals asked moment s; shown = []; answer = (backup_done asked payload moment s).0; after = (backup_done asked payload moment s).1 }
-
-abbrev pub backup_step : Asked → List ℕ → ℕ → State → Answer × State
-backup_step asked payload moment s = step_of s (backup_case asked payload moment s)

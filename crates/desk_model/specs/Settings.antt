@@ -144,6 +144,3 @@ file_case requests s = record (load_case (unwrap_or requests []) s (all_set (unw
 
 abbrev pub load_of : Option (List Request) → State → Answer × State
 load_of requests s = step_of s (file_case requests s)
-
-abbrev pub load_step : List ℕ → State → Answer × State
-load_step payload s = load_of (file_requests payload) s

@@ -1,12 +1,9 @@
 -- What is decided of what is seen is decided of every state that has that site and those images.
-use Rattle.desk_rules.proofs.Common.{◌≡◌, ◌∙◌, ℕ, suc, Bool, true, false, cond, List, [], ◌∷◌, ◌++◌, length, map, Option, Some, None, Result, Ok, Err, sym, ap, refl, subst, arith, unwrap_or, option_map, find, Contains, IfOk, length-map, length-replicate, option_map_or, AllocError, RequestClass, site_change, site_file, backup, restore, class_of, Answer, Done, ImageRecord, Request, adhoc, refusals_of, State, Image, entries, image_named, first_refusal, Asked, asked_of, backup_refusals, client_refusals, policy_asked, Removal, gone_client, gone_policy, is_of_client, is_under, removal_of, setting_refusals, use_refusals, used_by, uses_of, Change, Load, Nothing, SealNow, Decision}
+use Rattle.desk_rules.proofs.Common.{◌≡◌, ◌∙◌, ℕ, suc, Bool, true, false, cond, List, [], ◌∷◌, ◌++◌, length, map, Option, Some, None, Result, Ok, Err, sym, ap, refl, subst, arith, unwrap_or, option_map, find, Contains, IfOk, length-map, length-replicate, option_map_or, AllocError, RequestClass, site_change, site_file, backup, restore, class_of, Answer, Done, ImageRecord, Request, adhoc, refusals_of, State, Image, entries, image_named, first_refusal, Asked, asked_of, backup_refusals, client_refusals, policy_asked, Removal, gone_client, gone_policy, is_of_client, is_under, removal_of, setting_refusals, use_refusals, used_by, uses_of, Change, Load, Nothing, SealNow, Decision, Decides, DecidesAs, IsChange, IsDecision, IsStateOf, SetsSite, backup_body, Site, settled, backup_answer, blank, room_under, seen}
 use Rattle.site_types.specs.declared.id.BackupId.{BackupId}
 use Rattle.site_types.specs.declared.schedule.Start.{Start}
 use Rattle.image_catalogue.specs.Images.{first_of_client, first_under, record_named, same_id}
 use Rattle.desk_model.specs.Step.{restore_refusals}
-use Rattle.desk_rules.specs.Decisions.{Decides, DecidesAs, IsChange, IsDecision, IsStateOf, SetsSite, backup_body, Site}
-use Rattle.desk_rules.specs.Refusing.{settled}
-use Rattle.desk_rules.specs.Seen.{backup_answer, blank, room_under, seen}
 use Rattle.desk_rules.proofs.RefusalLemmas.{answered}
 use Rattle.desk_rules.proofs.SeenLemmas.{entries_seen}
 

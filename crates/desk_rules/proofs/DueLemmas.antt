@@ -1,12 +1,11 @@
 -- A schedule that isn't due where there is no image isn't due after one.
-use Rattle.desk_rules.proofs.Common.{◌≡◌, ◌||◌, ◌&&◌, ℕ, ℤ, List, [], ◌∷◌, Bool, true, false, cond, Option, None, refl, sym, ◌∙◌, ap, filter, ImageRecord, Schedule, Policy}
+use Rattle.desk_rules.proofs.Common.{◌≡◌, ◌||◌, ◌&&◌, ℕ, ℤ, List, [], ◌∷◌, Bool, true, false, cond, Option, None, refl, sym, ◌∙◌, ap, filter, ImageRecord, Schedule, Policy, is_due_for, may_be_due, foremost, line_of, due_of_client, last_in, last_time, Mode, Frequency, Calendar}
 use Rattle.std.specs.List.{list_any}
 use Rattle.schedule_windows.specs.declared.civil.Civil.{Civil}
 use Rattle.schedule_windows.specs.declared.schedule.Last.{Last}
 use Rattle.schedule_windows.specs.Schedules.{comes_round, is_before, is_due_in, is_due}
 use Rattle.schedule_windows.specs.Weeks.{is_open, opened, spans}
 use Rattle.schedule_windows.specs.Zones.{ZoneOf, civil_at}
-use Rattle.desk_rules.specs.DueBackups.{is_due_for, may_be_due, foremost, line_of, due_of_client, last_in, last_time, Mode, Frequency, Calendar}
 use Rattle.std.proofs.lemmas.Bool.{or_parts}
 
 none_then : {X : Type 0} (p q : X → Bool) (xs : List X) → ((x : X) → p x ≡ false → q x ≡ false) → list_any p xs ≡ false → list_any q xs ≡ false

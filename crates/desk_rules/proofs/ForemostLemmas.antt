@@ -1,7 +1,6 @@
 -- What those that pass a test give, and the foremost of due schedules, of one more.
-use Rattle.desk_rules.proofs.Common.{◌≡◌, ◌<◌, ◌+◌, ℕ, List, [], ◌∷◌, ◌++◌, length, take, get_or, Bool, true, false, cond, Option, Some, None, refl, sym, ◌∙◌, ap, arith, append-nil, Bor, filter, option_map, if◌then◌else◌, option_map_or, take_more, filter-append, Schedule, flat_map}
+use Rattle.desk_rules.proofs.Common.{◌≡◌, ◌<◌, ◌+◌, ℕ, List, [], ◌∷◌, ◌++◌, length, take, get_or, Bool, true, false, cond, Option, Some, None, refl, sym, ◌∙◌, ap, arith, append-nil, Bor, filter, option_map, if◌then◌else◌, option_map_or, take_more, filter-append, Schedule, flat_map, mode_before, fore, foremost, Mode, Frequency, Calendar}
 use Rattle.std.proofs.lemmas.Bool.Decides.{nat_tests}
-use Rattle.desk_rules.specs.DueBackups.{mode_before, fore, foremost, Mode, Frequency, Calendar}
 use Rattle.std.proofs.lemmas.List.Concat.{flat_map-append}
 
 -- those that pass a test, of one element more

@@ -1,8 +1,7 @@
 -- The last time of images: of one image more, and that it is no later than they are.
-use Rattle.desk_rules.proofs.Common.{◌≡◌, ◌≤◌, ◌&&◌, ℕ, List, [], ◌∷◌, ◌++◌, map, max, Bool, true, false, cond, Option, Some, None, refl, sym, ◌∙◌, ap, arith, bytes_eq, append-nil, filter, IfSome, option_map_or, map-append, filter-append, ImageRecord}
+use Rattle.desk_rules.proofs.Common.{◌≡◌, ◌≤◌, ◌&&◌, ℕ, List, [], ◌∷◌, ◌++◌, map, max, Bool, true, false, cond, Option, Some, None, refl, sym, ◌∙◌, ap, arith, bytes_eq, append-nil, filter, IfSome, option_map_or, map-append, filter-append, ImageRecord, is_of, latest, last_time, AllInTime}
 use Rattle.std.proofs.lemmas.Slice.Eq.{bytes_eq-Decides}
 use Rattle.site_types.specs.Limits.{last_moment}
-use Rattle.desk_rules.specs.DueBackups.{is_of, latest, last_time, AllInTime}
 
 -- the greatest of some times, where one may have none so far
 abbrev with_time : ℕ → Option ℕ → ℕ

@@ -1,8 +1,7 @@
 -- The first refusal of a list.
-use Rattle.desk_rules.proofs.Common.{◌≡◌, ◌∙◌, Bool, true, false, List, [], ◌∷◌, ◌++◌, Option, Some, None, Result, Ok, Err, map, sym, ap, refl, subst, inl, inr, ◌⊎◌, option_map, IfOk, IsErrAnd, AllocError, Answer, first_refusal, refusal_answer, Change, Nothing, Decision}
+use Rattle.desk_rules.proofs.Common.{◌≡◌, ◌∙◌, Bool, true, false, List, [], ◌∷◌, ◌++◌, Option, Some, None, Result, Ok, Err, map, sym, ap, refl, subst, inl, inr, ◌⊎◌, option_map, IfOk, IsErrAnd, AllocError, Answer, first_refusal, refusal_answer, Change, Nothing, Decision, Passes, refusal_by, settled, Refusal, Answered, NoMemory}
 use Rattle.policy_book.specs.declared.fault.BookFault.{BookFault}
 use Rattle.policy_book.specs.Refusals.{Allows, first_refusal as book_refusal}
-use Rattle.desk_rules.specs.Refusing.{Passes, refusal_by, settled, Refusal, Answered, NoMemory}
 use Rattle.policy_book.specs.declared.fault.BookFault.TheVariants as fault
 
 -- what refuses before something refuses before it and what comes behind

@@ -1,11 +1,8 @@
 -- What is seen of a state.
-use Rattle.desk_rules.proofs.Common.{◌≡◌, ◌∙◌, List, [], ◌∷◌, ◌++◌, Option, None, Some, map, sym, ap, refl, ℕ, unwrap_or, codes, option_map_or, Answer, Done, Schedule, SealNow, ImageRecord, Request, State, entries, gone_client, gone_policy, removal_of, use_refusals, used_by, uses_of, Policy, adhoc, manual, Asked, backup_refusals, client_refusals, latest_version, new_time, policy_asked, schedule_asked, first_refusal}
+use Rattle.desk_rules.proofs.Common.{◌≡◌, ◌∙◌, List, [], ◌∷◌, ◌++◌, Option, None, Some, map, sym, ap, refl, ℕ, unwrap_or, codes, option_map_or, Answer, Done, Schedule, SealNow, ImageRecord, Request, State, entries, gone_client, gone_policy, removal_of, use_refusals, used_by, uses_of, Policy, adhoc, manual, Asked, backup_refusals, client_refusals, latest_version, new_time, policy_asked, schedule_asked, first_refusal, backup_body, JobBody, Backup, Site, settled, backup_answer, blank, room_under, seen}
 use Rattle.site_types.specs.Ids.{id_text}
 use Rattle.site_types.specs.declared.id.BackupId.{BackupId}
 use Rattle.image_catalogue.specs.Images.{first_of_client, first_under}
-use Rattle.desk_rules.specs.Decisions.{backup_body, JobBody, Backup, Site}
-use Rattle.desk_rules.specs.Refusing.{settled}
-use Rattle.desk_rules.specs.Seen.{backup_answer, blank, room_under, seen}
 use Rattle.site_types.specs.declared.image.Base.TheVariants as base
 
 pub entries_seen : (images : List ImageRecord) → entries (map blank images) ≡ images

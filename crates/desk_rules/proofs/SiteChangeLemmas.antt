@@ -1,10 +1,6 @@
 -- Changes of the site that nothing refuses.
-use Rattle.desk_rules.proofs.Common.{◌≡◌, ◌∙◌, Bool, true, false, List, Option, Some, None, Result, Ok, Err, sym, ap, refl, inl, inr, ◌||◌, is_some, option_map, IfOk, AllocError, class_of, site_change, Answer, Request, is_of_book, first_refusal, is_setting, zone_set, Change, Nothing, Decision}
-use Rattle.site_types.specs.declared.request.Request.TheVariants.{Load, Backup, Restore}
+use Rattle.desk_rules.proofs.Common.{◌≡◌, ◌∙◌, Bool, true, false, List, Option, Some, None, Result, Ok, Err, sym, refl, inl, inr, ◌||◌, is_some, option_map, IfOk, AllocError, Answer, Request, is_of_book, first_refusal, is_setting, zone_set, Change, Nothing, Decision, DecidesAs, Passes, Refusal, Answered}
 use Rattle.desk_model.proofs.ClassLemmas.{of_book_or_zone}
-use Rattle.desk_rules.specs.Decisions.{DecidesAs}
-use Rattle.desk_rules.specs.Refusing.{Passes, Refusal, Answered}
-use Rattle.desk_rules.specs.declared.decision.SiteChange.TheVariants as change
 
 -- what changes the site and sets no zone changes the book
 pub of_book : (request : Request) → is_setting request ≡ true → zone_set request ≡ None → is_of_book request ≡ true
@@ -13,19 +9,6 @@ of_book request setting none = or_false (is_of_book request) ∙ (λ j. is_of_bo
     or_false : (b : Bool) → b ≡ (b || false)
     or_false true = refl
     or_false false = refl
-
--- a request of this class is the change itself
-pub same_request : (change request : Request) → site_change change ≡ class_of request → change ≡ request
-same_request change Load is = absurd (cc)
-same_request change (Backup client policy schedule start) is = absurd (cc)
-same_request change (Restore id copy) is = absurd (cc)
-same_request change request is = cc
-
-pub is_setting_of : (change request : Request) → site_change change ≡ class_of request → is_setting change ≡ true
-is_setting_of change Load is = absurd (cc)
-is_setting_of change (Backup client policy schedule start) is = absurd (cc)
-is_setting_of change (Restore id copy) is = absurd (cc)
-is_setting_of change request is = ap is_setting (same_request change request is)
 
 pub made_decides : (o : Option Answer) (answer : Answer) (IsMade : Change → Type 0) (d : Decision) → o ≡ None → d.answer ≡ answer → IsMade d.change → DecidesAs o answer IsMade d
 made_decides None answer IsMade d none said made = (said, made)

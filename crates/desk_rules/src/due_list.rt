@@ -1,16 +1,15 @@
 ghost use Rattle.std.specs.Prelude.{◌≡◌, ◌≤◌, [], ◌++◌, if◌then◌else◌, map, filter, IfOk, OnOk, IfSome};
-ghost use Rattle.std.specs.Option.{option_map, ForSome};
+ghost use Rattle.std.specs.Option.{option_map, option_map_or, ForSome};
 ghost use Rattle.site_types.specs.Limits.{last_moment};
 ghost use Rattle.schedule_windows.specs.Zones.{IsCivil, civil_at};
-ghost use Rattle.desk_rules.specs.DueBackups.{last_in, is_due_for, may_be_due, foremost, line_of, due_of_policy, due_backups, AllInTime};
+ghost use Rattle.desk_rules.specs.DueBackups.{last_in, is_due_for, may_be_due, mode_before, fore, foremost, line_of, due_of_policy, due_backups, AllInTime};
 
 use crate::NoMemory;
-use crate::foremost::foremost_of;
 use crate::last_times::LastTimes;
 use desk_model::Site;
 use policy_book::Policy;
 use schedule_windows::{Civil, Last, Zone, due};
-use site_types::{DueBackup, ImageRecord, Name, Schedule};
+use site_types::{DueBackup, ImageRecord, Mode, Name, Schedule};
 use std::alloc::Global;
 
 // A moment at a site, with what its zone's clock shows then, and the images that there are.
@@ -165,5 +164,26 @@ fn last_in(alloc: Global, zone: &Zone, time: Option<u64>) -> Result<Option<Last>
             civil: zone.civil(alloc, time)?,
         })),
         None => Ok(None),
+    }
+}
+
+// Of some due schedules' foremost and the next one, the foremost.
+fn foremost_of<'a>(first: Option<&'a Schedule>, next: &'a Schedule) -> &'a Schedule
+    ensures { result.now ≡ option_map_or (λ s. fore s.now next.now) first.entry next.now }
+{
+    match first {
+        Some(first) if !goes_before(&next.mode, &first.mode) => first,
+        _ => next,
+    }
+}
+
+// Of two due schedules a calendar goes before a frequency, and a longer frequency before a shorter.
+fn goes_before(mode: &Mode, other: &Mode) -> bool
+    ensures { result ≡ mode_before mode.now other.now }
+{
+    match (mode, other) {
+        (Mode::Calendar(_), Mode::Frequency(_)) => true,
+        (Mode::Frequency(seconds), Mode::Frequency(other)) => other < seconds,
+        (_, Mode::Calendar(_)) => false,
     }
 }

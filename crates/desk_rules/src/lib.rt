@@ -8,7 +8,6 @@ mod backups;
 mod deciding;
 mod decision;
 mod due_list;
-mod foremost;
 mod last_times;
 mod refusal;
 mod restores;

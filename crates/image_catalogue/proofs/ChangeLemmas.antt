@@ -1,11 +1,8 @@
 -- A catalogue with one image more, or one less: its map's entries, and what is counted.
-use Rattle.std.proofs.Common.{◌≡◌, ◌≤◌, ◌+◌, ℕ, List, Bool, ◌++◌, length, take, drop, Some, None, sym, ◌∙◌, ap, subst, arith}
+use Rattle.image_catalogue.proofs.Common.{◌≡◌, ◌≤◌, ◌+◌, ℕ, List, Bool, ◌++◌, length, take, drop, Some, None, sym, ◌∙◌, ap, subst, arith, values_of, lookup, remove_entry, recorded, Counts, UnitBytes, record_named, with_record, without_record, bytes_on, used, BackupId, ImageRecord}
 use Rattle.std.specs.BTreeMap.{insert_entry}
-use Rattle.std.specs.Map.{values_of, lookup, remove_entry}
 use Rattle.std.proofs.Math.Seq.{take-append_seam}
-use Rattle.image_catalogue.specs.Counts.{recorded, Counts, UnitBytes}
 use Rattle.image_catalogue.specs.Entries.{KeysAreIds}
-use Rattle.image_catalogue.specs.Images.{record_named, with_record, without_record, bytes_on, used, BackupId, ImageRecord}
 use Rattle.image_catalogue.proofs.ImageLemmas.{used_with}
 use Rattle.image_catalogue.proofs.EntryLemmas.{id_cmp, at_id, inserted, kept_with, removed, kept_without, used_without}
 

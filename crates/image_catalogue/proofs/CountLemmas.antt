@@ -1,10 +1,8 @@
 -- The bytes on each unit.
-use Rattle.std.proofs.Common.{◌≡◌, ◌<◌, ◌≤◌, ◌+◌, ◌-◌, ℕ, zero, suc, List, [], ◌∷◌, ◌++◌, length, get_or, set, take, add-one, Bool, true, false, cond, Option, Some, refl, sym, ◌∙◌, ap, subst, arith, bytes_eq, SomeIff}
+use Rattle.image_catalogue.proofs.Common.{◌≡◌, ◌<◌, ◌≤◌, ◌+◌, ◌-◌, ℕ, zero, suc, List, [], ◌∷◌, ◌++◌, length, get_or, set, take, add-one, Bool, true, false, cond, Option, Some, refl, sym, ◌∙◌, ap, subst, arith, bytes_eq, SomeIff, bytes_on, CopyRecord, recorded, NoneBefore, IsFirst, UnitBytes}
 use Rattle.std.proofs.lemmas.List.{get_or_default}
 use Rattle.std.proofs.lemmas.Bool.{false≢true}
 use Rattle.std.proofs.lemmas.Slice.Eq.{bytes_eq-Decides}
-use Rattle.image_catalogue.specs.Images.{bytes_on, CopyRecord}
-use Rattle.image_catalogue.specs.Counts.{recorded, NoneBefore, IsFirst, UnitBytes}
 
 same_unit : (a b : List ℕ) → bytes_eq a b ≡ true → a ≡ b
 same_unit a b same = (bytes_eq-Decides a b).0 same
@@ -56,14 +54,14 @@ pub raised : (es : List UnitBytes) (unit : List ℕ) (i : ℕ) (old new : UnitBy
 raised es unit i old new size first is unchanged bytes other =
     omega (arith, moved es unit i old new 0 size first is unchanged (omega arith) other, nothing (bytes_eq unit other))
 
-pub lowered : (es : List UnitBytes) (unit : List ℕ) (i : ℕ) (old new : UnitBytes) (size : ℕ) → IsFirst es unit i → old ≡ get_or es i old → new.unit ≡ old.unit → new.bytes + size ≡ old.bytes → (other : List ℕ) → cond (bytes_eq unit other) size 0 + recorded other (set es i new) ≡ recorded other es
-lowered es unit i old new size first is unchanged bytes other =
-    omega (arith, moved es unit i old new size 0 first is unchanged (omega arith) other, nothing (bytes_eq unit other))
-
 pub lowered_at : (es : List UnitBytes) (unit : List ℕ) (i : ℕ) (d : UnitBytes) (size : ℕ) → IsFirst es unit i → size ≤ (get_or es i d).bytes → (other : List ℕ) → cond (bytes_eq unit other) size 0 + recorded other (set es i (record { unit = (get_or es i d).unit; bytes = (get_or es i d).bytes - size })) ≡ recorded other es
 lowered_at es unit i d size first below other =
-    lowered es unit i (get_or es i d) (record { unit = (get_or es i d).unit; bytes = (get_or es i d).bytes - size }) size first
-    (get_or_default es i d (get_or es i d) first.0) refl (omega arith) other
+    omega (
+      arith,
+      moved es unit i (get_or es i d) (record { unit = (get_or es i d).unit; bytes = (get_or es i d).bytes - size }) size 0 first
+          (get_or_default es i d (get_or es i d) first.0) refl (omega arith) other,
+      nothing (bytes_eq unit other),
+    )
 
 -- Of a unit that has no entry, and no bytes, none are taken.
 pub lowered_none : (es : List UnitBytes) (unit : List ℕ) (size : ℕ) → NoneBefore es unit (length es) → size ≤ recorded unit es → (other : List ℕ) → cond (bytes_eq unit other) size 0 + recorded other es ≡ recorded other es
@@ -71,17 +69,16 @@ lowered_none es unit size none below other =
     let empty : size ≡ 0 = omega (arith, none_recorded es unit none) in
     ap (λ (n : ℕ). cond (bytes_eq unit other) n 0 + recorded other es) empty ∙ omega (arith, nothing (bytes_eq unit other))
 
-in_front : (p q : Bool) (n bytes before after : ℕ) → (p ≡ true → q ≡ true → ⊥) → after ≡ cond q n 0 + before → cond p bytes after ≡ cond q n 0 + cond p bytes before
-in_front true true n bytes before after apart made = absurd (apart refl refl)
-in_front true false n bytes before after apart made = omega arith
-in_front false q n bytes before after apart made = made
-
 pub pushed : (es : List UnitBytes) (new : UnitBytes) → NoneBefore es new.unit (length es) → (other : List ℕ) → recorded other (es ++ new ∷ []) ≡ cond (bytes_eq new.unit other) new.bytes 0 + recorded other es
 pushed [] new none other = omega arith
 pushed (e ∷ es) new none other =
-    in_front (bytes_eq e.unit other) (bytes_eq new.unit other) new.bytes e.bytes (recorded other es) (recorded other (es ++ new ∷ []))
-    (λ left right. false≢true (sym (none 0 e (omega arith) (omega arith)) ∙ (bytes_eq-Decides e.unit new.unit).1 (same_unit e.unit other left ∙ sym (same_unit new.unit other right))))
-    (pushed es new (λ k x low high. none (suc k) x (omega arith) (omega arith)) other)
+    omega (
+      arith,
+      behind (bytes_eq e.unit other) (bytes_eq new.unit other) 0 new.bytes e.bytes (recorded other es) (recorded other (es ++ new ∷ []))
+          (λ left right. false≢true (sym (none 0 e (omega arith) (omega arith)) ∙ (bytes_eq-Decides e.unit new.unit).1 (same_unit e.unit other left ∙ sym (same_unit new.unit other right))))
+          (omega (arith, pushed es new (λ k x low high. none (suc k) x (omega arith) (omega arith)) other, nothing (bytes_eq new.unit other))),
+      nothing (bytes_eq new.unit other),
+    )
 
 -- The same of entries that are read through something.
 

@@ -1,18 +1,16 @@
 -- The entries of a map that keeps each image under its id, and the list of its images.
-use Rattle.std.proofs.Common.{◌≡◌, ◌<◌, ◌+◌, ◌&&◌, ℕ, zero, suc, List, [], ◌∷◌, length, get_or, Bool, true, false, cond, Option, Some, None, refl, sym, ◌∙◌, ap, arith, not, Ordering, Less, Equal, Greater}
+use Rattle.image_catalogue.proofs.Common.{◌≡◌, ◌<◌, ◌+◌, ◌&&◌, ℕ, zero, suc, List, [], ◌∷◌, length, get_or, Bool, true, false, cond, Option, Some, None, refl, sym, ◌∙◌, ap, arith, not, Ordering, Less, Equal, Greater, keys_of, values_of, lookup, remove_entry, same_id, AreById, bytes_on, record_named, used, with_record, without_record, BackupId, ImageRecord}
 use Rattle.std.specs.BTreeMap.{is_at, insert_entry}
 use Rattle.std.specs.Cmp.{IsTotalOrder, tied_then, unsigned_tied}
 use Rattle.std.specs.Cmp.Lexicographic.{slice_cmp}
 use Rattle.std.specs.List.{AllByRecursion}
 use Rattle.std.specs.List.Sorted.{IsStrictlySortedBy}
-use Rattle.std.specs.Map.{keys_of, values_of, lookup, remove_entry}
 use Rattle.std.specs.Ordering.{nat_cmp, is_eq, is_lt, match_ordering, ordering_reverse, then_cmp}
 use Rattle.std.proofs.lemmas.Bool.{false≢true}
 use Rattle.std.proofs.lemmas.Cmp.{nat_list_cmp_total, nat_cmp_total, then_total, on_total}
 use Rattle.std.proofs.lemmas.Map.Text.{is_eq-slice_cmp}
 use Rattle.std.proofs.lemmas.Option.{none-some, same_Some}
 use Rattle.image_catalogue.specs.Entries.{KeysAreIds}
-use Rattle.image_catalogue.specs.Images.{same_id, AreById, bytes_on, record_named, used, with_record, without_record, BackupId, ImageRecord}
 use Rattle.image_catalogue.proofs.ImageLemmas.{none_found, without_none}
 
 -- The order of ids.

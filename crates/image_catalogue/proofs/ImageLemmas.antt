@@ -1,8 +1,7 @@
 -- A list of images with one more, or one less.
-use Rattle.std.proofs.Common.{◌≡◌, ◌+◌, ◌&&◌, eq-eqb, ℕ, List, [], ◌∷◌, length, Bool, true, false, cond, Option, Some, None, refl, sym, ◌∙◌, ap, arith, not}
+use Rattle.image_catalogue.proofs.Common.{◌≡◌, ◌+◌, ◌&&◌, eq-eqb, ℕ, List, [], ◌∷◌, length, Bool, true, false, cond, Option, Some, None, refl, sym, ◌∙◌, ap, arith, not, same_id, is_before, with_record, record_named, without_record, bytes_on, used, BackupId, ImageRecord}
 use Rattle.std.proofs.lemmas.Option.{none-some}
 use Rattle.std.proofs.lemmas.Slice.Eq.{bytes_eq-Decides}
-use Rattle.image_catalogue.specs.Images.{same_id, is_before, with_record, record_named, without_record, bytes_on, used, BackupId, ImageRecord}
 
 -- neither the first passes nor one of the others
 pub none_found : (b : Bool) (x : ImageRecord) (rest : Option ImageRecord) → cond b (Some x) rest ≡ None → (b ≡ false) × (rest ≡ None)

@@ -1,8 +1,5 @@
 -- What is spelled at the front is read, and where a field breaks its rule nothing is read.
-use Rattle.image_kinds.proofs.Common.{◌≡◌, ℕ, ◌^◌, ◌<◌, true, false, cond, ltb, leb, eqb, List, ◌∷◌, ◌++◌, length, take, drop, Some, None, Result, Ok, Err, refl, sym, ap, ◌∙◌, append_assoc, arith, inl, inr, ◌&&◌, Width, w16, w64, byte_len, from_be_bytes, to_be_bytes, lt-ltb, leb-true, eqb-true, ne_eqb, and_parts, or_parts, or_cases, cond-true, cond-false, Entry, Item, Taken, Kept, Format}
-use Rattle.image_kinds.specs.Paths.{is_path_length, follows}
-use Rattle.image_kinds.specs.Streams.{path_of, spelled_path, spelled_content, spelled_item, IsEntry, IsItem, keeps, names_path, is_tag, PathBreaks, path_length_ends, wrong_path_length, path_ends, wrong_path, FileEnds, time_ends, content_length_ends, content_ends, Breaks, no_tag, wrong_tag, behind_end, in_path, in_file}
-use Rattle.image_kinds.specs.Fields.{◌>>=◌, whole, number_at, text_at, path_bytes_at, path_at, content_at, entry_at, item_at}
+use Rattle.image_kinds.proofs.Common.{◌≡◌, ℕ, ◌^◌, ◌<◌, true, false, cond, ltb, leb, eqb, List, ◌∷◌, ◌++◌, length, take, drop, Some, None, Result, Ok, Err, refl, sym, ap, ◌∙◌, append_assoc, arith, inl, inr, ◌&&◌, Width, w16, w64, byte_len, from_be_bytes, to_be_bytes, lt-ltb, leb-true, eqb-true, ne_eqb, and_parts, or_parts, or_cases, cond-true, cond-false, Entry, Item, Taken, Kept, Format, is_path_length, follows, path_of, spelled_path, spelled_content, spelled_item, IsEntry, IsItem, keeps, names_path, is_tag, PathBreaks, path_length_ends, wrong_path_length, path_ends, wrong_path, FileEnds, time_ends, content_length_ends, content_ends, Breaks, no_tag, wrong_tag, behind_end, in_path, in_file, ◌>>=◌, whole, number_at, text_at, path_bytes_at, path_at, content_at, entry_at, item_at}
 use Rattle.image_kinds.proofs.Reading.{wide16, wide64, number_again, text_again, made}
 
 number_stops : (w : Width) (bytes : List ℕ) → length bytes < byte_len w → number_at w bytes ≡ Err 0

@@ -1,11 +1,6 @@
 -- The law of chains: a chain of a client's backups gives the selected part of its last stream.
-use Rattle.image_kinds.proofs.Common.{◌≡◌, ℕ, ◌+◌, suc, true, List, [], ◌∷◌, ◌++◌, take, drop, Option, Some, None, refl, sym, ap, subst, ◌∙◌, arith, inl, inr, ◌⊎◌, map, nat_le, Contains, Result, Ok, Err, IfOk, cond-true, cond-false, cases_Bool, leb-false, Entry, Item, Taken, Kept}
-use Rattle.std.specs.List.{AllByRecursion, filter_map}
-use Rattle.std.proofs.lemmas.List.{map-append, take-append-drop, drop_more}
-use Rattle.image_kinds.specs.Paths.{rise_behind}
-use Rattle.image_kinds.specs.Streams.{path_of, taken_of, IsStream}
-use Rattle.image_kinds.specs.Images.{selected, item_made, made}
-use Rattle.image_kinds.specs.Trees.{taken_in, last_taken, last_image, tree, Backup, images_behind, chain_of, last_stream, KeepsOld, AllKeepOld, AreBackups}
+use Rattle.image_kinds.proofs.Common.{◌≡◌, ℕ, ◌+◌, suc, true, List, [], ◌∷◌, ◌++◌, take, drop, Option, Some, None, refl, sym, ap, subst, ◌∙◌, arith, inl, inr, ◌⊎◌, map, nat_le, Contains, Result, Ok, Err, IfOk, cond-true, cond-false, cases_Bool, leb-false, Entry, Item, Taken, Kept, AllByRecursion, filter_map, map-append, drop_more, rise_behind, path_of, taken_of, IsStream, selected, item_made, made, taken_in, last_taken, last_image, tree, Backup, images_behind, chain_of, last_stream, KeepsOld, AllKeepOld, AreBackups}
+use Rattle.std.proofs.lemmas.List.{take-append-drop}
 use Rattle.image_kinds.proofs.Orders.{made_is, path_made}
 use Rattle.image_kinds.proofs.Trees.{paths, taken_here}
 

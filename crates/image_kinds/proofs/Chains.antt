@@ -1,11 +1,7 @@
 -- The tree of a chain, image by image.
-use Rattle.image_kinds.proofs.Common.{◌≡◌, ℕ, ◌+◌, ◌-◌, ◌<◌, ◌≤◌, true, List, [], ◌∷◌, ◌++◌, length, get_or, take, Option, Some, None, refl, sym, ap, subst, ◌∙◌, append_assoc, arith, inl, inr, map, bytes_eq, and_parts, and_from, cases_Bool, Entry, Item, Taken, Kept}
-use Rattle.std.specs.List.{AllByRecursion, filter_map, cons_option}
-use Rattle.std.proofs.lemmas.List.{take_more, take_all}
+use Rattle.image_kinds.proofs.Common.{◌≡◌, ℕ, ◌+◌, ◌-◌, ◌<◌, ◌≤◌, true, List, [], ◌∷◌, ◌++◌, length, get_or, take, Option, Some, None, refl, sym, ap, subst, ◌∙◌, append_assoc, arith, inl, inr, map, bytes_eq, and_parts, and_from, cases_Bool, Entry, Item, Taken, Kept, AllByRecursion, filter_map, cons_option, take_more, is_path, is_before, follows, rise_behind, path_of, taken_of, IsEntry, IsItem, IsStream, IsImage, taken_in, last_taken, last_image, entry_behind, tree}
+use Rattle.std.proofs.lemmas.List.{take_all}
 use Rattle.std.proofs.lemmas.Slice.Eq.{bytes_eq-Decides}
-use Rattle.image_kinds.specs.Paths.{is_path, is_before, follows, rise_behind}
-use Rattle.image_kinds.specs.Streams.{path_of, taken_of, IsEntry, IsItem, IsStream, IsImage}
-use Rattle.image_kinds.specs.Trees.{taken_in, last_taken, last_image, entry_behind, tree}
 use Rattle.image_kinds.proofs.Orders.{rise_sooner, Rises}
 use Rattle.image_kinds.proofs.Trees.{paths, taken_here}
 use Rattle.image_kinds.specs.declared.format.Format.TheVariants as format

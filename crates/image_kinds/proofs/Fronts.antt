@@ -1,10 +1,6 @@
 -- Bytes begin with one list of whole items, and break in one place.
-use Rattle.image_kinds.proofs.Common.{get_or, ◌≡◌, ℕ, suc, ◌-◌, ◌<◌, ◌≤◌, true, false, List, [], ◌∷◌, ◌++◌, length, Option, Some, None, Ok, Err, refl, sym, ap, ◌∙◌, append_assoc, arith, map, nat_eq, and_parts, and_from, both_ways, length-append, append_cancel_left, flat_map_more, w16, to_be_bytes, Item, Taken, Kept, Format, Result}
-use Rattle.std.specs.List.{flat_map, AllByRecursion, starts_with}
-use Rattle.std.proofs.lemmas.Result.{MatchResult-at_ok, MatchResult-at_err}
-use Rattle.image_kinds.specs.Paths.{follows, rise_behind}
-use Rattle.image_kinds.specs.Streams.{path_of, spelled_item, spelled, letters_of, IsItem, AreItems, last_behind, last_path, PathBreaks, path_length_ends, wrong_path_length, path_ends, wrong_path, Breaks, no_tag, wrong_tag, behind_end, in_path, in_file, IsBad, in_letters, behind_items}
-use Rattle.image_kinds.specs.Fields.{Read, item_at, IsRead, FieldFault, Broken, NoMemory}
+use Rattle.image_kinds.proofs.Common.{get_or, ◌≡◌, ℕ, suc, ◌-◌, ◌<◌, ◌≤◌, true, false, List, [], ◌∷◌, ◌++◌, length, Option, Some, None, Ok, Err, refl, sym, ap, ◌∙◌, append_assoc, arith, map, nat_eq, and_parts, and_from, both_ways, length-append, append_cancel_left, flat_map_more, w16, to_be_bytes, Item, Taken, Kept, Format, Result, AllByRecursion, starts_with, follows, rise_behind, path_of, spelled_item, spelled, letters_of, IsItem, AreItems, last_behind, last_path, PathBreaks, path_length_ends, wrong_path_length, path_ends, wrong_path, Breaks, no_tag, wrong_tag, behind_end, in_path, in_file, IsBad, in_letters, behind_items, Read, item_at, IsRead, FieldFault, Broken, NoMemory, MatchResult-at_ok, MatchResult-at_err}
+use Rattle.std.specs.List.{flat_map}
 use Rattle.image_kinds.proofs.Reading.{IsBytes, TakesItem, item_law}
 use Rattle.image_kinds.proofs.Again.{item_again, item_stops}
 use Rattle.image_kinds.specs.declared.format.Format.TheVariants as format

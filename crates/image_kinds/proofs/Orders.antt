@@ -1,9 +1,6 @@
 -- The order of paths, and lists of them that rise.
-use Rattle.image_kinds.proofs.Common.{◌≡◌, ℕ, Bool, true, List, [], ◌∷◌, Option, Some, None, Ordering, refl, ap, ◌∙◌, map, filter, nat_le, nat_cmp, is_lt, Less, Equal, Greater, AllByRecursion, and_parts, and_from, cond_both, nat_list_cmp_total, Entry, Taken, Kept}
+use Rattle.image_kinds.proofs.Common.{◌≡◌, ℕ, Bool, true, List, [], ◌∷◌, Option, Some, None, Ordering, refl, ap, ◌∙◌, map, filter, nat_le, nat_cmp, is_lt, Less, Equal, Greater, AllByRecursion, and_parts, and_from, cond_both, nat_list_cmp_total, Entry, Taken, Kept, is_path, is_before, follows, rise_behind, path_of, IsEntry, IsItem, IsStream, IsImage, is_selected, selected, item_made, made}
 use Rattle.std.specs.Cmp.Lexicographic.{slice_cmp}
-use Rattle.image_kinds.specs.Paths.{is_path, is_before, follows, rise_behind}
-use Rattle.image_kinds.specs.Streams.{path_of, IsEntry, IsItem, IsStream, IsImage}
-use Rattle.image_kinds.specs.Images.{is_selected, selected, item_made, made}
 use Rattle.image_kinds.specs.declared.format.Format.TheVariants as format
 
 pub less_is : (o : Ordering) → is_lt o ≡ true → o ≡ Less

@@ -1,11 +1,7 @@
 -- What is read of a field is what is spelled at the front, and where nothing is read the field breaks its rule.
-use Rattle.image_kinds.proofs.Common.{◌≡◌, ℕ, suc, ◌+◌, ◌^◌, ◌<◌, ◌≤◌, true, false, cond, ltb, eqb, List, [], ◌∷◌, ◌++◌, length, get_or, take, drop, Option, Some, None, Result, Ok, Err, refl, sym, ap, subst, ◌∙◌, append_assoc, arith, inl, inr, MatchResult, ◌&&◌, Width, w16, w64, byte_len, from_be_bytes, to_be_bytes, cases_lt, ltb-false, ltb-true, le-ltb, eqb-true, and_parts, or_from, cond_both, Entry, Item, Taken, Kept, Format}
-use Rattle.std.proofs.lemmas.List.{take_at, drop_at, take-append-drop, length-append, length-take, get_or-drop, get_or-take, get_or_past}
+use Rattle.image_kinds.proofs.Common.{◌≡◌, ℕ, suc, ◌+◌, ◌^◌, ◌<◌, ◌≤◌, true, false, cond, ltb, eqb, List, [], ◌∷◌, ◌++◌, length, get_or, take, drop, Option, Some, None, Result, Ok, Err, refl, sym, ap, subst, ◌∙◌, append_assoc, arith, inl, inr, MatchResult, ◌&&◌, Width, w16, w64, byte_len, from_be_bytes, to_be_bytes, cases_lt, ltb-false, ltb-true, le-ltb, eqb-true, and_parts, or_from, cond_both, Entry, Item, Taken, Kept, Format, take_at, drop_at, length-append, length-take, get_or-drop, get_or-take, get_or_past, is_path_length, follows, path_of, spelled_path, spelled_content, spelled_item, IsEntry, IsItem, keeps, names_path, PathBreaks, path_length_ends, wrong_path_length, path_ends, wrong_path, FileEnds, time_ends, content_length_ends, content_ends, Breaks, no_tag, wrong_tag, behind_end, in_path, in_file, Read, ◌>>=◌, whole, number_at, text_at, path_length_at, path_bytes_at, path_at, content_at, entry_at, end_at, taken_at, kept_at, tagged_at, item_at, MatchResult-weaker}
+use Rattle.std.proofs.lemmas.List.{take-append-drop}
 use Rattle.std.proofs.lemmas.Nat.{be_bytes_2, be_bytes_8, from_be_bytes-to_be_bytes_2, from_be_bytes-to_be_bytes_8}
-use Rattle.image_kinds.specs.Paths.{is_path_length, follows}
-use Rattle.image_kinds.specs.Streams.{path_of, spelled_path, spelled_content, spelled_item, IsEntry, IsItem, keeps, names_path, PathBreaks, path_length_ends, wrong_path_length, path_ends, wrong_path, FileEnds, time_ends, content_length_ends, content_ends, Breaks, no_tag, wrong_tag, behind_end, in_path, in_file}
-use Rattle.image_kinds.specs.Fields.{Read, ◌>>=◌, whole, number_at, text_at, path_length_at, path_bytes_at, path_at, content_at, entry_at, end_at, taken_at, kept_at, tagged_at, item_at}
-use Rattle.std.proofs.lemmas.Result.{MatchResult-weaker}
 
 abbrev pub IsBytes : List ℕ → Type 0
 IsBytes bytes = (i : ℕ) → get_or bytes i 0 < 256

@@ -1,9 +1,6 @@
 -- What an image took of a path, and what a chain did.
-use Rattle.image_kinds.proofs.Common.{◌≡◌, ℕ, true, false, List, [], ◌∷◌, ◌++◌, Some, None, refl, sym, ap, subst, ◌∙◌, map, bytes_eq, is_lt, and_parts, and_from, cond-true, cond-false, false_from_ne_true, both_ways, nat_list_cmp_total, tied_itself, Item, Taken, Kept, ◌-◌, ◌<◌, length, get_or, take, drop, Ordering, arith, nat_cmp, Less, Equal, Greater, take-append-drop, take_all}
+use Rattle.image_kinds.proofs.Common.{◌≡◌, ℕ, true, false, List, [], ◌∷◌, ◌++◌, Some, None, refl, sym, ap, subst, ◌∙◌, map, bytes_eq, is_lt, and_parts, and_from, cond-true, cond-false, false_from_ne_true, both_ways, nat_list_cmp_total, tied_itself, Item, Taken, Kept, ◌-◌, ◌<◌, length, get_or, take, drop, Ordering, arith, nat_cmp, Less, Equal, Greater, take-append-drop, take_all, is_path, is_before, follows, rise_behind, path_of, taken_of, taken_in}
 use Rattle.std.proofs.lemmas.Slice.Eq.{bytes_eq-Decides}
-use Rattle.image_kinds.specs.Paths.{is_path, is_before, follows, rise_behind}
-use Rattle.image_kinds.specs.Streams.{path_of, taken_of}
-use Rattle.image_kinds.specs.Trees.{taken_in}
 use Rattle.image_kinds.proofs.Orders.{before_before, rise_sooner}
 use Rattle.std.specs.Cmp.Lexicographic.{slice_cmp}
 use Rattle.std.specs.Ordering.{ordering_reverse}

@@ -1,9 +1,7 @@
 -- The value that bytes spell.
-use Rattle.image_kinds.proofs.Common.{subst, ◌≡◌, ℕ, List, [], ◌∷◌, Result, Ok, Err, refl, sym, ap, ◌∙◌, map, IfOk, IfErr, Entry, Item, Taken, Kept}
-use Rattle.std.specs.List.{filter_map, AllByRecursion}
+use Rattle.image_kinds.proofs.Common.{subst, ◌≡◌, ℕ, List, [], ◌∷◌, Result, Ok, Err, refl, sym, ap, ◌∙◌, map, IfOk, IfErr, Entry, Item, Taken, Kept, filter_map, AllByRecursion, taken_of, spelled, spelled_stream, spelled_image, IsItem, AreItems, IsStream, IsImage}
 use Rattle.image_kinds.specs.declared.decode.StreamFault.{StreamFault}
 use Rattle.image_kinds.specs.declared.decode.StreamFault.TheVariants.{Bad, NoMemory}
-use Rattle.image_kinds.specs.Streams.{taken_of, spelled, spelled_stream, spelled_image, IsItem, AreItems, IsStream, IsImage}
 use Rattle.image_kinds.specs.Decoding.{IsStreamFault, IsReadAs}
 use Rattle.image_kinds.proofs.Fronts.{one_value, spelled_is_good}
 use Rattle.image_kinds.specs.declared.format.Format.TheVariants as format

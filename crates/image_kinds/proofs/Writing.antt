@@ -1,8 +1,6 @@
 -- Writing one part behind another.
-use Rattle.image_kinds.proofs.Common.{◌≡◌, ℕ, ◌+◌, ◌<◌, ◌≤◌, zero, suc, true, List, [], ◌∷◌, ◌++◌, length, get_or, take, ap, ◌∙◌, append_assoc, arith, map, flat_map, and_parts, Entry, Item, Taken}
-use Rattle.std.proofs.lemmas.List.{flat_map_more, take_more, take_all, length-map}
-use Rattle.image_kinds.specs.Paths.{is_path_length, follows, rise_behind}
-use Rattle.image_kinds.specs.Streams.{path_of, spelled_entry, spelled_item}
+use Rattle.image_kinds.proofs.Common.{◌≡◌, ℕ, ◌+◌, ◌<◌, ◌≤◌, zero, suc, true, List, [], ◌∷◌, ◌++◌, length, get_or, take, ap, ◌∙◌, append_assoc, arith, map, flat_map, and_parts, Entry, Item, Taken, flat_map_more, take_more, length-map, is_path_length, follows, rise_behind, path_of, spelled_entry, spelled_item}
+use Rattle.std.proofs.lemmas.List.{take_all}
 use Rattle.image_kinds.proofs.Again.{length_of_path}
 use Rattle.std.proofs.lemmas.List.Folds.{flat_map-map}
 use Rattle.std.proofs.Math.ListN.{get_or-map}

@@ -1,10 +1,10 @@
 -- What a decoder's answer says.
 use Rattle.std.specs.Prelude.{◌≡◌, ℕ, ◌≤◌, ◌-◌, List, length, Result, Ok, Err}
-use Rattle.image_kinds.specs.declared.cursor.FieldFault.{FieldFault}
+use Rattle.site_types.specs.declared.fields.FieldFault.{FieldFault}
 use Rattle.image_kinds.specs.declared.decode.StreamFault.{StreamFault}
 use Rattle.image_kinds.specs.declared.decode.StreamFault.TheVariants.{Bad, NoMemory}
 use Rattle.image_kinds.specs.Streams.{IsBad, Format}
-use Rattle.image_kinds.specs.declared.cursor.FieldFault.TheVariants as field
+use Rattle.site_types.specs.declared.fields.FieldFault.TheVariants as field
 
 -- a field that breaks its rule, by the bytes that are left from it on
 abbrev pub IsFault : Format → List ℕ → FieldFault → Type 0

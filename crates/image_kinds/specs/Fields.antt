@@ -5,8 +5,8 @@ use Rattle.std.specs.Int.{Width, w16, w64}
 use Rattle.site_types.specs.Fields.{byte_field, number_field, bytes_field}
 use Rattle.image_kinds.specs.Paths.{is_path_length, follows}
 use Rattle.image_kinds.specs.Streams.{keeps, Entry, Item, Taken, Kept, Format}
-pub use Rattle.image_kinds.specs.declared.cursor.FieldFault.{FieldFault}
-pub use Rattle.image_kinds.specs.declared.cursor.FieldFault.TheVariants.{Broken, NoMemory}
+pub use Rattle.site_types.specs.declared.fields.FieldFault.{FieldFault}
+pub use Rattle.site_types.specs.declared.fields.FieldFault.TheVariants.{Broken, NoMemory}
 
 -- What stands at the front, and the bytes behind it. Where a field breaks its rule, it is the number of bytes from where that field begins, and 0 where the bytes end within it.
 abbrev pub Read : Type 0 → Type 0

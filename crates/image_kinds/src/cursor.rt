@@ -2,47 +2,14 @@
 ghost use Rattle.std.specs.Prelude.{◌≡◌, ◌&&◌, ◌==◌, length, Option, Result, Ok, Err};
 ghost use Rattle.site_types.specs.Fields.{borrowed};
 ghost use Rattle.image_kinds.specs.Streams.{letters_of};
-ghost use Rattle.image_kinds.specs.declared.cursor.FieldFault.TheVariants as fault;
 ghost use Rattle.image_kinds.specs.Fields.{letters_at, path_length_at, path_bytes_at, path_at, content_at, entry_at, end_at, taken_at, kept_at, tagged_at, item_at, IsRead, IsAfter};
 
 use crate::entry::{Entry, Item};
 use crate::format::Format;
 use crate::path::{follows, is_path_length};
-use site_types::{Ended, Fields, NoMemory, Text};
-use std::alloc::{AllocFailed, Global};
+use site_types::{FieldFault, Fields, Text};
+use std::alloc::Global;
 use std::marker::Model;
-
-// Why a field wasn't read.
-#[derive(Clone, Copy, Debug)]
-pub enum FieldFault {
-    // It breaks its rule. So many bytes are left from where it begins, and none where the input ends within it.
-    Broken(usize),
-    NoMemory,
-}
-
-impl From<NoMemory> for FieldFault {
-    ghost from_gives = { λ _ e. e ≡ fault.NoMemory };
-
-    fn from(_: NoMemory) -> FieldFault {
-        FieldFault::NoMemory
-    }
-}
-
-impl<T: Drop> From<AllocFailed<T>> for FieldFault {
-    ghost from_gives = { λ _ e. e ≡ fault.NoMemory };
-
-    fn from(_: AllocFailed<T>) -> FieldFault {
-        FieldFault::NoMemory
-    }
-}
-
-impl From<Ended> for FieldFault {
-    ghost from_gives = { λ _ e. e ≡ fault.Broken 0 };
-
-    fn from(_: Ended) -> FieldFault {
-        FieldFault::Broken(0)
-    }
-}
 
 // The bytes that are still to be read.
 #[derive(Drop)]

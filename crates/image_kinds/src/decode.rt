@@ -5,11 +5,11 @@ ghost use Rattle.image_kinds.specs.Decoding.{IsFault, IsStreamFault, IsReadAs};
 ghost use Rattle.image_kinds.specs.declared.format.Format.TheVariants as format;
 ghost use Rattle.image_kinds.specs.declared.decode.StreamFault.TheVariants as fault;
 
-use crate::cursor::{Cursor, FieldFault};
+use crate::cursor::Cursor;
 use crate::entry::{Entry, Item};
 use crate::format::Format;
 use crate::stream::{ImageBody, Stream};
-use site_types::NoMemory;
+use site_types::{FieldFault, NoMemory};
 use std::alloc::Global;
 
 /// Why bytes weren't read as a stream or an image.

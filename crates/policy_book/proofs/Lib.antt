@@ -1,3 +1,4 @@
+pub mod Common
 pub mod BookLemmas
 pub mod RefusalLemmas
 pub mod LineLemmas

@@ -1,7 +1,5 @@
 -- Lists that are read and joined piece by piece.
-use Rattle.std.proofs.Common.{ℕ, true, false, Result, Ok, Err, ◌≡◌, ◌∙◌, List, [], ◌∷◌, ◌++◌, Option, Some, None, refl, sym, ap, append_assoc}
-use Rattle.policy_book.specs.SiteFile.{before, joined, is_among, text_of, word_of, words_of}
-use Rattle.toml.specs.Data.{Data, Members, member}
+use Rattle.policy_book.proofs.Common.{ℕ, true, false, Result, Ok, Err, ◌≡◌, ◌∙◌, List, [], ◌∷◌, ◌++◌, Option, Some, None, refl, sym, ap, append_assoc, before, joined, is_among, text_of, word_of, words_of, Data, Members, member}
 use Rattle.policy_book.specs.Loading.{Adds}
 use Rattle.policy_book.specs.declared.fault.LoadFault.{LoadFault}
 use Rattle.policy_book.specs.declared.fault.LoadFault.TheVariants.{NotASite}
@@ -16,10 +14,6 @@ module _ {A : Type 0} where
   pub joined_before : (xs : List A) (y : A) (zs : Option (List A)) → joined (Some xs) (before y zs) ≡ joined (Some (xs ++ y ∷ [])) zs
   joined_before xs y None = refl
   joined_before xs y (Some zs) = ap Some (sym (append_assoc xs (y ∷ []) zs))
-
-  pub joined_none : (xs : List A) (ys : Option (List A)) → joined (Some xs) ys ≡ None → ys ≡ None
-  joined_none xs None h = refl
-  joined_none xs (Some ys) h = absurd (cc)
 
   -- where the rest isn't there, nothing is
   pub joined_no_rest : (xs : Option (List A)) → joined xs None ≡ None

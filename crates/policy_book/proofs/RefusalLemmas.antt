@@ -1,5 +1,5 @@
 -- The first refusal of a list.
-use Rattle.std.proofs.Common.{◌≡◌, Bool, true, false, cond, [], ◌∷◌, Some, None, Ok, Err, sym, ◌∙◌, ap, inr}
+use Rattle.policy_book.proofs.Common.{◌≡◌, Bool, true, false, cond, [], ◌∷◌, Some, None, Ok, Err, sym, ◌∙◌, ap, inr}
 use Rattle.policy_book.specs.declared.fault.BookFault.{BookFault}
 use Rattle.policy_book.specs.Refusals.{Allows}
 

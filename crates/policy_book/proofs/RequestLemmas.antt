@@ -1,9 +1,7 @@
 -- The requests of lines, one after another.
-use Rattle.std.proofs.Common.{◌≡◌, ◌∙◌, ◌<◌, ◌+◌, ℕ, length, get_or, drop, List, [], ◌∷◌, ◌++◌, Option, Some, None, refl, sym, ap, option_map}
-use Rattle.std.specs.Prelude.{option_and_then}
+use Rattle.policy_book.proofs.Common.{◌≡◌, ◌∙◌, ◌<◌, ◌+◌, ℕ, length, get_or, drop, List, [], ◌∷◌, ◌++◌, Option, Some, None, refl, sym, ap, option_map, before, change_read, joined, requests_of, option_and_then}
 use Rattle.std.proofs.lemmas.List.{drop_more}
 use Rattle.site_types.specs.declared.request.Request.{Request}
-use Rattle.policy_book.specs.SiteFile.{before, change_read, joined, requests_of}
 use Rattle.policy_book.proofs.LineLemmas.{joined_before}
 
 as_before : (r : Request) (rest : Option (List Request)) → option_map (λ rs. r ∷ rs) rest ≡ before r rest

@@ -1,11 +1,14 @@
 ghost use Rattle.std.specs.Prelude.{◌≡◌, IfOk};
-ghost use Rattle.policy_book.specs.Book.{BookOrdered};
+ghost use Rattle.std.specs.Option.{option_copied};
+ghost use Rattle.policy_book.specs.Lists.{named};
+ghost use Rattle.policy_book.specs.Book.{BookOrdered, client_name, policy_name, unit_name};
 
 use crate::NoMemory;
 use crate::client::Client;
 use crate::policy::Policy;
-use site_types::{Copied, Unit, copy_all};
+use site_types::{Copied, Name, Unit, copy_all};
 use slp_tree::Lifecycles;
+use slp_tree::named::find;
 use std::alloc::Global;
 use std::marker::Model;
 
@@ -68,5 +71,26 @@ impl Book {
         ensures { result.now ≡ self.now.policies }
     {
         &self.policies
+    }
+
+    /// The unit of this name, and None exactly where there is none.
+    pub fn unit(&self, name: &Name) -> Option<&Unit>
+        ensures { option_copied result ≡ named unit_name name.now self.now.units }
+    {
+        find(&self.units, name)
+    }
+
+    /// The client of this name, and None exactly where there is none.
+    pub fn client(&self, name: &Name) -> Option<&Client>
+        ensures { option_copied result ≡ named client_name name.now self.now.clients }
+    {
+        find(&self.clients, name)
+    }
+
+    /// The policy of this name, and None exactly where there is none.
+    pub fn policy(&self, name: &Name) -> Option<&Policy>
+        ensures { option_copied result ≡ named policy_name name.now self.now.policies }
+    {
+        find(&self.policies, name)
     }
 }

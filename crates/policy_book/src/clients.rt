@@ -10,7 +10,7 @@ use crate::book::Book;
 use crate::refusals::{check_new, check_room, known_place};
 use crate::{BookFault, Client, NoMemory, Policy};
 use site_types::{Name, Text};
-use slp_tree::named::place;
+use slp_tree::named::{place, put};
 use std::alloc::Global;
 
 /// How many clients there may be.
@@ -59,12 +59,12 @@ impl Book {
                 let found = &mut self.clients[at];
                 found.last = found.last.max(time);
             }
-            Err(at) => {
+            Err(_) => {
                 let sealed = Client {
                     name: client.copy(alloc)?,
                     last: time,
                 };
-                self.clients.insert(at, sealed)?;
+                put(&mut self.clients, sealed)?;
             }
         }
         Ok(())

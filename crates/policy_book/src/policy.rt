@@ -5,11 +5,13 @@ ghost use Rattle.std.specs.Str.{bytes_eq};
 ghost use Rattle.policy_book.specs.Lists.{AreByName, has, itself};
 ghost use Rattle.policy_book.specs.Book.{schedule_name};
 ghost use Rattle.policy_book.specs.Changes.{policy_with, with_schedule, without_path};
+ghost use Rattle.policy_book.specs.Requests.{mode_of, schedule_of};
 ghost use Rattle.policy_book.specs.Staged.{policy_after};
 
-use crate::schedule::schedule_of;
 use crate::{NoMemory, PolicyChange};
-use site_types::{Copied, Name, Schedule, Text, copy_all};
+use site_types::{
+    CalendarItem, Copied, Kind, ListOf, Mode, Name, Schedule, Text, Windows, copy_all,
+};
 use slp_tree::named::{Named, find, put, remove};
 use std::alloc::Global;
 use std::marker::Model;
@@ -217,5 +219,41 @@ fn copied(alloc: Global, name: Option<&Name>) -> Result<Option<Name>, NoMemory>
     match name {
         Some(name) => Ok(Some(name.copy(alloc)?)),
         None => Ok(None),
+    }
+}
+
+// The schedule that a request asks for.
+fn schedule_of(
+    alloc: Global,
+    name: &Name,
+    kind: Kind,
+    frequency: Option<u64>,
+    calendar: Option<&ListOf<CalendarItem>>,
+    windows: &Windows,
+) -> Result<Schedule, NoMemory>
+    ensures { IfOk result (λ schedule. schedule ≡ schedule_of name.now kind frequency (option_copied calendar.entry) windows.now) }
+{
+    Ok(Schedule {
+        name: name.copy(alloc)?,
+        kind,
+        mode: mode_of(alloc, frequency, calendar)?,
+        windows: windows.copy(alloc)?,
+    })
+}
+
+// A frequency, or else a calendar.
+fn mode_of(
+    alloc: Global,
+    frequency: Option<u64>,
+    calendar: Option<&ListOf<CalendarItem>>,
+) -> Result<Mode, NoMemory>
+    ensures { IfOk result (λ mode. mode ≡ mode_of frequency (option_copied calendar.entry)) }
+{
+    match (frequency, calendar) {
+        (Some(seconds), _) => Ok(Mode::Frequency(seconds)),
+        (None, Some(items)) => Ok(Mode::Calendar(ListOf::from_vec(
+            items.as_slice().to_vec(alloc)?,
+        ))),
+        (None, None) => Ok(Mode::Calendar(ListOf::new(alloc))),
     }
 }

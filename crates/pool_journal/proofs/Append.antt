@@ -1,10 +1,7 @@
 -- The two writes of an append, over what is known of the disk.
-use Rattle.pool_journal.proofs.Common.{◌≡◌, ◌≢◌, inl, ℕ, ◌+◌, ◌<◌, ◌^◌, List, [], ◌∷◌, ◌++◌, length, drop, Some, ◌∙◌, ap, subst, arith, Ok, length-append, Result, written, Torn, Changes, IsDurable, WroteDurably}
+use Rattle.pool_journal.proofs.Common.{◌≡◌, ◌≢◌, inl, ℕ, ◌+◌, ◌<◌, ◌^◌, List, [], ◌∷◌, ◌++◌, length, drop, Some, ◌∙◌, ap, subst, arith, Ok, length-append, Result, written, Torn, Changes, IsDurable, WroteDurably, Record, body_of, record_of, spelled_entry, IsWritable, IsSpellable, staged_record, Found, AtRest, FromBefore, with_one, IsBeforeOrAfter, Appending, Appended, Stops}
 use Rattle.vault_disk.specs.Disk.{Disk, Image, IsSame}
 use Rattle.vault_disk.proofs.Moments.{goes_on, weaker}
-use Rattle.pool_journal.specs.Entries.{Record, body_of, record_of, spelled_entry, IsWritable, IsSpellable, staged_record}
-use Rattle.pool_journal.specs.Records.{Found}
-use Rattle.pool_journal.specs.Stops.{AtRest, FromBefore, with_one, IsBeforeOrAfter, Appending, Appended, Stops}
 use Rattle.pool_journal.proofs.Bytes.{front, length_staged, reads, torn_behind, staged, torn_gate, gate_opened}
 use Rattle.pool_journal.proofs.FieldLemmas.{record_of-body}
 

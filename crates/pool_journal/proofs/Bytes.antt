@@ -1,10 +1,6 @@
 -- What is read of the bytes of records, and what writes make of them.
-use Rattle.pool_journal.proofs.Common.{◌≡◌, inl, inr, ℕ, zero, suc, ◌+◌, ◌-◌, ◌*◌, ◌≤◌, ◌<◌, ◌^◌, min, List, [], ◌∷◌, ◌++◌, length, take, drop, replicate, get_or, refl, sym, ◌∙◌, ap, subst, arith, append_assoc, length-append, take-append-drop, add-zero, Some, if◌then◌else◌, nat_lt, nat_le, from_be_bytes-to_be_bytes_4, w32, to_be_bytes, from_be_bytes, written, Torn, lt-ltb, ne_eqb, le-leb}
-use Rattle.std.proofs.lemmas.List.{take_at, drop_at, drop_more, append-nil, drop-drop}
-use Rattle.std.proofs.lemmas.Bool.{cases_eq, cases_lt, cond-true, lt-leb}
-use Rattle.pool_journal.specs.Entries.{Record, record_of, spelled_entry, staged_record}
-use Rattle.pool_journal.specs.Records.{header, Found, Reading, found, broken, behind, bytes_from, with_record, records, reading, spelled, AllSmall, Spell, Holds}
-use Rattle.pool_journal.specs.Stops.{with_one, IsBeforeOrAfter}
+use Rattle.pool_journal.proofs.Common.{◌≡◌, inl, inr, ℕ, zero, suc, ◌+◌, ◌-◌, ◌*◌, ◌≤◌, ◌<◌, ◌^◌, min, List, [], ◌∷◌, ◌++◌, length, take, drop, replicate, get_or, refl, sym, ◌∙◌, ap, subst, arith, append_assoc, length-append, take-append-drop, add-zero, Some, if◌then◌else◌, nat_lt, nat_le, from_be_bytes-to_be_bytes_4, w32, to_be_bytes, from_be_bytes, written, Torn, lt-ltb, ne_eqb, le-leb, drop_more, drop-drop, cases_eq, cases_lt, cond-true, lt-leb, Record, record_of, spelled_entry, staged_record, header, Found, Reading, found, broken, behind, bytes_from, with_record, records, reading, spelled, AllSmall, Spell, Holds, with_one, IsBeforeOrAfter}
+use Rattle.std.proofs.lemmas.List.{take_at, drop_at, append-nil}
 
 -- the record at an open gate, its length known
 abbrev pub AtRecord : ℕ → ℕ → ℕ → List ℕ → Reading

@@ -1,9 +1,6 @@
 -- Reading what was spelled, field by field.
-use Rattle.pool_journal.proofs.Common.{◌≡◌, ◌≢◌, inl, inr, ℕ, ◌<◌, ◌^◌, List, [], ◌∷◌, ◌++◌, length, Some, None, true, refl, sym, ◌∙◌, ap, suc, arith, append_assoc, length-append, option_map, nat_lt, ◌==◌, if◌then◌else◌, take_at, drop_at, append-nil, nat_tests, from_be_bytes-to_be_bytes_2, from_be_bytes-to_be_bytes_4, from_be_bytes-to_be_bytes_8, w16, w32, w64, to_be_bytes, WholeImage, Ok, Err, Result, OnOk, le-ltb}
-use Rattle.std.proofs.lemmas.Bool.{cases_eq, cond-false}
+use Rattle.pool_journal.proofs.Common.{◌≡◌, ◌≢◌, inl, inr, ℕ, ◌<◌, ◌^◌, List, [], ◌∷◌, ◌++◌, length, Some, None, true, refl, sym, ◌∙◌, ap, suc, arith, append_assoc, length-append, option_map, nat_lt, ◌==◌, if◌then◌else◌, take_at, drop_at, append-nil, nat_tests, from_be_bytes-to_be_bytes_2, from_be_bytes-to_be_bytes_4, from_be_bytes-to_be_bytes_8, w16, w32, w64, to_be_bytes, WholeImage, Ok, Err, Result, OnOk, le-ltb, cases_eq, cond-false, string, strings, kind_code, base_code, Field, short_field, count_field, long_field, strings_field, string_field, name_field, kind_field, base_coded, base_field, both, byte_field, Kind, Full, Differential, Cumulative, Base, Record, spelled_id, spelled_names, spelled_kind_and_base, spelled_lifecycle, spelled_longs, spelled_image, spelled_settings, spelled_entry, body_of, id_made, id_field, made_under_field, taken_as_field, version_field, moments_field, settings_field, whole_image_field, record_of, AllShort, AreLines, IsFormed, IsSpellable, Entry}
 use Rattle.site_types.specs.Names.{is_name}
-use Rattle.pool_journal.specs.Fields.{string, strings, kind_code, base_code, Field, short_field, count_field, long_field, strings_field, string_field, name_field, kind_field, base_coded, base_field, both, byte_field, Kind, Full, Differential, Cumulative, Base}
-use Rattle.pool_journal.specs.Entries.{Record, spelled_id, spelled_names, spelled_kind_and_base, spelled_lifecycle, spelled_longs, spelled_image, spelled_settings, spelled_entry, body_of, id_made, id_field, made_under_field, taken_as_field, version_field, moments_field, settings_field, whole_image_field, record_of, AllShort, AreLines, IsFormed, IsSpellable, Entry}
 use Rattle.site_types.specs.declared.image.Base.TheVariants as base
 use Rattle.pool_journal.specs.declared.entry.Entry.TheVariants as entry
 

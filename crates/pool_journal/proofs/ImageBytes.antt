@@ -1,9 +1,6 @@
 -- Where the bytes of an image stand, and what is read of them.
-use Rattle.pool_journal.proofs.Common.{◌≡◌, ℕ, zero, suc, ◌+◌, ◌<◌, List, [], ◌∷◌, ◌++◌, length, take, drop, get_or, refl, sym, ◌∙◌, ap, arith, append_assoc, length-append, Contains, take_at, drop_at, w32, to_be_bytes, ReadsFully}
+use Rattle.pool_journal.proofs.Common.{◌≡◌, ℕ, zero, suc, ◌+◌, ◌<◌, List, [], ◌∷◌, ◌++◌, length, take, drop, get_or, refl, sym, ◌∙◌, ap, arith, append_assoc, length-append, Contains, take_at, drop_at, w32, to_be_bytes, ReadsFully, Record, header, Found, spelled, Spell, Holds, with_one}
 use Rattle.std.proofs.lemmas.List.Elements.{Contains-append_left}
-use Rattle.pool_journal.specs.Entries.{Record}
-use Rattle.pool_journal.specs.Records.{header, Found, spelled, Spell, Holds}
-use Rattle.pool_journal.specs.Stops.{with_one}
 use Rattle.pool_journal.proofs.Suffixes.{bytes_end}
 
 -- a record that is there stays there when one more is added, and the new one is there too

@@ -1,8 +1,6 @@
 -- Strings, one behind another.
-use Rattle.std.proofs.Common.{◌≡◌, ℕ, ◌+◌, ◌-◌, ◌<◌, ◌≤◌, ◌^◌, min, zero, suc, List, [], ◌∷◌, ◌++◌, length, get_or, take, refl, sym, ap, subst, ◌∙◌, append_assoc, length-append, arith, Option, Some, None, Err, option_map}
-use Rattle.std.proofs.lemmas.List.{flat_map_more, take_more, append-nil}
-use Rattle.pool_journal.specs.Fields.{string, strings, string_field, strings_field, text_first, IsField, FieldFault, Broken, NoMemory}
-use Rattle.pool_journal.specs.Entries.{AllShort}
+use Rattle.pool_journal.proofs.Common.{◌≡◌, ℕ, ◌+◌, ◌-◌, ◌<◌, ◌≤◌, ◌^◌, min, zero, suc, List, [], ◌∷◌, ◌++◌, length, get_or, take, refl, sym, ap, subst, ◌∙◌, append_assoc, length-append, arith, Option, Some, None, Err, option_map, flat_map_more, take_more, string, strings, string_field, strings_field, text_first, IsField, FieldFault, Broken, NoMemory, AllShort}
+use Rattle.std.proofs.lemmas.List.{append-nil}
 
 pub short_at : (texts : List (List ℕ)) (k : ℕ) (x : List ℕ) → AllShort texts → k < length texts → x ≡ get_or texts k x → length x < 2 ^ 16
 short_at [] k x all lt is = absurd (omega arith)
@@ -48,7 +46,7 @@ module _ (count i : ℕ) (start rest : List ℕ) (texts : List (List ℕ)) (lt :
   read_more text rest' first = one_of ∙ rw first (one_behind texts text (strings_field (count - (i + 1)) rest'))
 
   pub read_broken : (e : FieldFault) (rest' after : List ℕ) → IsField {A = List ℕ} (Err e) (string_field rest) rest' → IsField {A = List (List ℕ)} (Err e) (strings_field count start) after
-  read_broken Broken rest' after none = one_of ∙ rw none refl
+  read_broken (Broken left) rest' after none = one_of ∙ rw none refl
   read_broken NoMemory rest' after none = tt
 
 pub read_all : (count i : ℕ) (start rest : List ℕ) (texts : List (List ℕ)) → count ≤ i → strings_field count start ≡ behind_texts texts (strings_field (count - i) rest) → strings_field count start ≡ Some (texts, rest)

@@ -1,11 +1,7 @@
 -- What an opening leaves.
-use Rattle.pool_journal.proofs.Common.{◌≡◌, ◌⊎◌, inl, inr, ℕ, ◌-◌, ◌≤◌, List, [], ◌∷◌, ◌++◌, length, replicate, refl, sym, ◌∙◌, ap, subst, arith, Ok, Err, ◌<◌, ◌^◌, lit<, length-append, Result, OnOk, Option, Some, None, nat_eq, false, written, Torn, Changes, IsDurable, WroteDurably, WasCut, Synced, LookedAround, starts_with, common_prefix_len}
-use Rattle.std.proofs.Common.{⊎_elim}
-use Rattle.std.proofs.lemmas.Bool.{lt-leb}
+use Rattle.pool_journal.proofs.Common.{◌≡◌, ◌⊎◌, inl, inr, ℕ, ◌-◌, ◌≤◌, List, [], ◌∷◌, ◌++◌, length, replicate, refl, sym, ◌∙◌, ap, subst, arith, Ok, Err, ◌<◌, ◌^◌, lit<, length-append, Result, OnOk, Option, Some, None, nat_eq, false, written, Torn, Changes, IsDurable, WroteDurably, WasCut, Synced, LookedAround, starts_with, common_prefix_len, ⊎_elim, lt-leb, header, Found, Reading, found, broken, foreign, spelled, reading, Holds, IsToldOf, Placed, AtRest, FromBefore, SameReading, Leaves, OpenStops, Begins, IsOpened}
 use Rattle.vault_disk.specs.Disk.{Disk, Image, IsSame, Now}
 use Rattle.vault_disk.proofs.Moments.{goes_on, weaker}
-use Rattle.pool_journal.specs.Records.{header, Found, Reading, found, broken, foreign, spelled, reading, Holds, IsToldOf, Placed}
-use Rattle.pool_journal.specs.Stops.{AtRest, FromBefore, SameReading, Leaves, OpenStops, Begins, IsOpened}
 use Rattle.pool_journal.proofs.Bytes.{reads}
 
 -- the file is durable, and was looked at

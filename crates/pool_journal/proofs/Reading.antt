@@ -1,10 +1,7 @@
 -- Reading a journal's records one by one.
-use Rattle.pool_journal.proofs.Common.{◌≡◌, ◌≢◌, ℕ, suc, ◌+◌, ◌-◌, ◌<◌, ◌^◌, List, [], ◌∷◌, ◌++◌, length, take, drop, get_or, true, refl, sym, ◌∙◌, ap, arith, length-append, Some, None, nat_eq, nat_lt, starts_with, Decides-eqb, from_be_bytes-to_be_bytes_4, w32, to_be_bytes, from_be_bytes}
-use Rattle.std.proofs.lemmas.List.{take_all, take_at, map-append}
-use Rattle.std.proofs.lemmas.Bool.{cond_both}
+use Rattle.pool_journal.proofs.Common.{◌≡◌, ◌≢◌, ℕ, suc, ◌+◌, ◌-◌, ◌<◌, ◌^◌, List, [], ◌∷◌, ◌++◌, length, take, drop, get_or, true, refl, sym, ◌∙◌, ap, arith, length-append, Some, None, nat_eq, nat_lt, starts_with, Decides-eqb, from_be_bytes-to_be_bytes_4, w32, to_be_bytes, from_be_bytes, take_all, map-append, cond_both, record_of, header, Found, broken, records, reading, placed, placed_of, spelled, AllSmall, Spell, Holds, IsToldOf, Placed}
+use Rattle.std.proofs.lemmas.List.{take_at}
 use Rattle.std.proofs.lemmas.Slice.Eq.{starts_is}
-use Rattle.pool_journal.specs.Entries.{record_of}
-use Rattle.pool_journal.specs.Records.{header, Found, broken, records, reading, placed, placed_of, spelled, AllSmall, Spell, Holds, IsToldOf, Placed}
 use Rattle.pool_journal.proofs.Bytes.{AtRecord, reads, broken_at, spelled-one, Spell-push}
 
 pub cons_of : (rest : List ℕ) (g : ℕ) → 0 < length rest → get_or rest 0 0 ≡ g → rest ≡ g ∷ take (length rest - 1) (drop 1 rest)

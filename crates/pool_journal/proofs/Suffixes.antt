@@ -1,9 +1,7 @@
 -- What a record's body says last are its bytes: each field leaves an end of what it was read from.
-use Rattle.pool_journal.proofs.Common.{◌≡◌, ℕ, ◌≤◌, Bool, true, false, List, [], ◌∷◌, ◌++◌, length, take, drop, Some, None, refl, sym, ap, ◌∙◌, subst, arith, append_assoc, append-nil, length-append, take-append-drop, Option, option_and_then, option_map, nat_lt, ◌==◌, if◌then◌else◌, Width, w16, w64, byte_len, WholeImage}
+use Rattle.pool_journal.proofs.Common.{◌≡◌, ℕ, ◌≤◌, Bool, true, false, List, [], ◌∷◌, ◌++◌, length, take, drop, Some, None, refl, sym, ap, ◌∙◌, subst, arith, append_assoc, append-nil, length-append, take-append-drop, Option, option_and_then, option_map, nat_lt, ◌==◌, if◌then◌else◌, Width, w16, w64, byte_len, WholeImage, Field, byte_field, short_field, long_field, behind_length, string_field, named, name_field, kind_coded, kind_field, base_coded, base_field, both, Record, id_made, id_field, made_under_field, taken_as_field, version_field, moments_field, settings_field, whole_image_field, without_bytes, with_bytes, of_kind, record_of}
 use Rattle.site_types.specs.Names.{is_name}
 use Rattle.site_types.specs.Fields.{number_field}
-use Rattle.pool_journal.specs.Fields.{Field, byte_field, short_field, long_field, behind_length, string_field, named, name_field, kind_coded, kind_field, base_coded, base_field, both}
-use Rattle.pool_journal.specs.Entries.{Record, id_made, id_field, made_under_field, taken_as_field, version_field, moments_field, settings_field, whole_image_field, without_bytes, with_bytes, of_kind, record_of}
 
 -- some bytes end with these
 pub record Ends (bytes rest : List ℕ) : Type 0 where

@@ -127,7 +127,7 @@ IsWritable r = (length (body_of r) < 2 ^ 32) × IsFormed r.entry r.bytes
 -- an entry was read: that of the record that the body spells, with the size of what stands before the record's bytes, and their number
 abbrev pub IsEntry : Result Parsed FieldFault → List ℕ → Type 0
 IsEntry (Ok p) body = (bytes : List ℕ) × (record_of body ≡ Some (record { entry = p.entry; bytes = bytes })) × (p.size + length bytes ≡ length body) × (p.left ≡ length bytes)
-IsEntry (Err Broken) body = record_of body ≡ None
+IsEntry (Err (Broken left)) body = record_of body ≡ None
 IsEntry (Err NoMemory) body = Unit {0}
 
 -- the fields of an entry have the ranges of their types: names are names, and numbers fit

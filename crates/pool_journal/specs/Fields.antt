@@ -6,8 +6,8 @@ use Rattle.site_types.specs.Fields.{number_field, bytes_field}
 pub use Rattle.site_types.specs.declared.image.Kind.{Kind}
 pub use Rattle.site_types.specs.declared.image.Kind.TheVariants.{Full, Differential, Cumulative}
 pub use Rattle.site_types.specs.declared.image.Base.{Base}
-pub use Rattle.pool_journal.specs.declared.fields.FieldFault.{FieldFault}
-pub use Rattle.pool_journal.specs.declared.fields.FieldFault.TheVariants.{Broken, NoMemory}
+pub use Rattle.site_types.specs.declared.fields.FieldFault.{FieldFault}
+pub use Rattle.site_types.specs.declared.fields.FieldFault.TheVariants.{Broken, NoMemory}
 pub use Rattle.site_types.specs.Fields.{Field, byte_field}
 use Rattle.site_types.specs.declared.image.Base.TheVariants as base
 
@@ -77,5 +77,5 @@ strings_field (suc count) bytes = option_and_then (λ p. option_map (text_first 
 -- a field was read: what stood there, and the bytes behind it
 abbrev pub IsField : {A : Type 0} → Result A FieldFault → Option (A × List ℕ) → List ℕ → Type 0
 IsField (Ok value) read rest = read ≡ Some (value, rest)
-IsField (Err Broken) read rest = read ≡ None
+IsField (Err (Broken left)) read rest = read ≡ None
 IsField (Err NoMemory) read rest = Unit {0}

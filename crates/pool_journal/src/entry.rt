@@ -6,8 +6,8 @@ ghost use Rattle.std.specs.Prelude.{◌≡◌, IfOk, Ok};
 ghost use Rattle.pool_journal.specs.Fields.{IsField};
 ghost use Rattle.pool_journal.specs.Entries.{id_field, made_under_field, taken_as_field, version_field, moments_field, settings_field, whole_image_field, IsEntry};
 
-use crate::fields::{FieldFault, read_base, read_kind, read_name, read_strings};
-use site_types::{BackupId, Base, Fields, Kind, ListOf, Name, Text};
+use crate::fields::{read_base, read_kind, read_name, read_strings};
+use site_types::{BackupId, Base, FieldFault, Fields, Kind, ListOf, Name, Text};
 use std::alloc::Global;
 
 /// What was recorded, in the order of the kinds' numbers.
@@ -121,7 +121,7 @@ pub fn read_entry(alloc: Global, body: &[u8]) -> Result<Parsed, FieldFault>
         1 => {
             let lines = read_settings(&mut fields, alloc)?;
             if !fields.rest().is_empty() {
-                return Err(FieldFault::Broken);
+                return Err(FieldFault::Broken(fields.rest().len()));
             }
             Ok(Parsed {
                 entry: Entry::Settings { lines },
@@ -133,7 +133,7 @@ pub fn read_entry(alloc: Global, body: &[u8]) -> Result<Parsed, FieldFault>
             let image = read_whole_image(&mut fields, alloc)?;
             let rest = fields.rest().len();
             if image.length != rest as u64 {
-                return Err(FieldFault::Broken);
+                return Err(FieldFault::Broken(rest));
             }
             Ok(Parsed {
                 entry: Entry::WholeImage(image),
@@ -141,6 +141,6 @@ pub fn read_entry(alloc: Global, body: &[u8]) -> Result<Parsed, FieldFault>
                 left: rest,
             })
         }
-        _ => Err(FieldFault::Broken),
+        _ => Err(FieldFault::Broken(body.len())),
     }
 }

@@ -1,43 +1,9 @@
 // Reading the fields of a record.
-ghost use Rattle.std.specs.Prelude.{◌≡◌};
 ghost use Rattle.site_types.specs.Fields.{borrowed};
-ghost use Rattle.pool_journal.specs.declared.fields.FieldFault.TheVariants as fault;
 ghost use Rattle.pool_journal.specs.Fields.{string_field, strings_field, name_field, kind_field, base_field, IsField};
 
-use site_types::{Base, Ended, Fields, Kind, ListOf, Name, NoMemory, Text};
-use std::alloc::{AllocFailed, Global};
-
-/// Why a field wasn't read.
-#[derive(Clone, Copy, Debug)]
-pub enum FieldFault {
-    /// The bytes end within the field, or it breaks its rule.
-    Broken,
-    NoMemory,
-}
-
-impl From<NoMemory> for FieldFault {
-    ghost from_gives = { λ _ e. e ≡ fault.NoMemory };
-
-    fn from(_: NoMemory) -> FieldFault {
-        FieldFault::NoMemory
-    }
-}
-
-impl<T: Drop> From<AllocFailed<T>> for FieldFault {
-    ghost from_gives = { λ _ e. e ≡ fault.NoMemory };
-
-    fn from(_: AllocFailed<T>) -> FieldFault {
-        FieldFault::NoMemory
-    }
-}
-
-impl From<Ended> for FieldFault {
-    ghost from_gives = { λ _ e. e ≡ fault.Broken };
-
-    fn from(_: Ended) -> FieldFault {
-        FieldFault::Broken
-    }
-}
+use site_types::{Base, FieldFault, Fields, Kind, ListOf, Name, Text};
+use std::alloc::Global;
 
 fn read_string<'a>(fields: &mut Fields<'a>) -> Result<&'a [u8], FieldFault>
     ensures { IsField (borrowed result) (string_field fields.old) fields.new }
@@ -72,21 +38,23 @@ pub fn read_strings(
 pub fn read_name(fields: &mut Fields, alloc: Global) -> Result<Name, FieldFault>
     ensures { IsField result (name_field fields.old) fields.new }
 {
+    let left = fields.rest().len();
     let text = read_string(fields)?;
     match Name::new(alloc, text)? {
         Some(name) => Ok(name),
-        None => Err(FieldFault::Broken),
+        None => Err(FieldFault::Broken(left)),
     }
 }
 
 pub fn read_kind(fields: &mut Fields) -> Result<Kind, FieldFault>
     ensures { IsField result (kind_field fields.old) fields.new }
 {
+    let left = fields.rest().len();
     match fields.byte()? {
         0 => Ok(Kind::Full),
         1 => Ok(Kind::Differential),
         2 => Ok(Kind::Cumulative),
-        _ => Err(FieldFault::Broken),
+        _ => Err(FieldFault::Broken(left)),
     }
 }
 

@@ -4,9 +4,9 @@
 // it knows, which may find no memory too: so nothing but the disk fails once it has changed. The image's bytes are taken apart
 // from the entry, since an entry that owned them would need a copy of up to 67,108,864 bytes. A record past the limits of its
 // numbers, a line of 65,536 bytes or a record of 4,294,967,296, can't be staged: the caller answers that memory ran out.
-ghost use Rattle.std.specs.Prelude.{◌≡◌, ◌+◌, List, length, IfOk, OnOk, OnErr, IfErr, IsErrOf};
+ghost use Rattle.std.specs.Prelude.{◌≡◌, ◌+◌, List, length, Contains, IfOk, OnOk, OnErr, IfErr, IsErrOf};
 ghost use Rattle.vault_disk.specs.Disk.{IsSame};
-ghost use Rattle.vault_disk.specs.Steps.{Rose};
+ghost use Rattle.vault_disk.specs.Steps.{LookedAround, Rose};
 ghost use Rattle.pool_journal.specs.Entries.{Record, spelled_entry, IsWritable, IsStaged};
 ghost use Rattle.pool_journal.specs.Records.{Found};
 ghost use Rattle.pool_journal.specs.Stops.{AtRest, Appended, Stops, IsOfAppend};
@@ -15,10 +15,10 @@ use crate::entry::Entry;
 use crate::fault::JournalFault;
 use crate::records::OPEN;
 use crate::spelling::spell_entry;
-use site_types::NoMemory;
+use site_types::{NoMemory, Text};
 use std::alloc::Global;
 use std::marker::Model;
-use vault_disk::{Failed, Vault, write_durably};
+use vault_disk::{Failed, Vault, read_fully, write_durably, zeros};
 
 /// An open journal: the offset of the closed gate behind its last record.
 #[derive(Drop)]
@@ -113,5 +113,28 @@ impl Journal {
         let staged = Journal::stage(alloc, entry, bytes)?;
         self.write(vault, &staged)?;
         Ok(())
+    }
+
+    /// The bytes of a whole image, which begin at this offset of the journal's file. They are read back at each restore: nothing
+    /// keeps them in memory after the opening.
+    pub fn read_bytes<V: Vault>(
+        &self,
+        alloc: Global,
+        vault: &mut V,
+        from: u64,
+        size: u64,
+    ) -> Result<Text, JournalFault>
+        ensures bytes { (fs : List Found) (f : Found) → (V.disk vault.old).tells → AtRest (V.disk vault.old) self.now fs → Contains fs f → from ≡ f.from → size ≡ length f.is.bytes → IfOk result (λ t. t ≡ f.is.bytes) }
+        ensures looked { (V.disk vault.old).tells → LookedAround (V.disk vault.old) (V.disk vault.new) }
+        ensures rest { (fs : List Found) → (V.disk vault.old).tells → AtRest (V.disk vault.old) self.now fs → AtRest (V.disk vault.new) self.now fs }
+        ensures same { IsSame (V.disk vault.old) (V.disk vault.new) }
+        ensures failed { IsErrOf result JournalFault.DiskFault → Rose (V.disk vault.old).faults (V.disk vault.new).faults }
+        ensures memory { IsErrOf result JournalFault.NoMemory → vault.new ≡ vault.old }
+        ensures never { IfErr result IsOfAppend }
+    {
+        let mut bytes = zeros(alloc, size as usize)?;
+        let count = read_fully(vault, 0, from, &mut bytes)?;
+        bytes.truncate(count);
+        Ok(Text::from_vec(bytes))
     }
 }

@@ -6,7 +6,6 @@
 mod entry;
 mod fault;
 mod fields;
-mod image_bytes;
 mod journal;
 mod open;
 mod records;

@@ -6,7 +6,7 @@ ghost use Rattle.pool_journal.specs.Records.{header, records, broken, reading, I
 
 use crate::entry::{Entry, read_entry};
 use crate::fault::JournalFault;
-use crate::fields::FieldFault;
+use site_types::FieldFault;
 use std::alloc::Global;
 
 pub const OPEN: u8 = 165;
@@ -80,7 +80,7 @@ pub fn read_records(alloc: Global, bytes: &[u8]) -> Result<Records, JournalFault
                 size: parsed.left as u64,
                 entry: parsed.entry,
             })?,
-            Err(FieldFault::Broken) => {
+            Err(FieldFault::Broken(_)) => {
                 return Ok(Records {
                     entries,
                     end: at,

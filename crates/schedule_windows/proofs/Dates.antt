@@ -1,18 +1,13 @@
 -- The date of a day is the date that has it.
-use Rattle.std.proofs.Common.{◌≡◌, ◌+◌, ◌-◌, ◌≤◌, ◌<◌, ℕ, zero, suc, ℤ, pos, negsuc, ◌-ℤ◌, ◌≤ℤ◌, Bool, not, ◌&&◌, List, refl, ap, ◌∙◌, inl, inr, arith, unsigned_abs}
-use Rattle.std.specs.List.{list_any}
-use Rattle.std.proofs.lemmas.Bool.Decides.{leb_tells}
+use Rattle.schedule_windows.proofs.Common.{◌≡◌, ◌+◌, ◌-◌, ◌≤◌, ◌<◌, ℕ, zero, suc, ℤ, pos, negsuc, ◌-ℤ◌, ◌≤ℤ◌, Bool, not, ◌&&◌, List, refl, ap, ◌∙◌, inl, inr, arith, unsigned_abs, list_any, leb_tells, signed_arith, year_of_day, weekday_of, YearMonthDay, date_in_year, year_month_day, names, excludes, is_run_day}
 use Rattle.jiff_core.specs.Calendar.{days_from_civil, days_in_month, days_of_months, day_of_year}
 use Rattle.jiff_core.specs.Date.{epoch_day}
 use Rattle.jiff_core.specs.declared.civil.date.Date.{Date}
 use Rattle.jiff_core.proofs.CalendarLemmas.{days_from_civil-day_count, day_count-day_of_year, days_of_months_more, days_of_months_mono}
 use Rattle.jiff_core.proofs.DateLemmas.{civil}
-use Rattle.jiff_core.proofs.SignedLemmas.{signed_arith}
-use Rattle.jiff_tz.specs.Year.{year_of_day}
 use Rattle.jiff_tz.proofs.YearLemmas.{year_of_day-date}
 use Rattle.site_types.specs.declared.calendar.CalendarItem.{CalendarItem}
-use Rattle.schedule_windows.specs.RunDays.{YearMonthDay, months_within, date_in_year, date_of, year_month_day, names, excludes, is_run_day}
-use Rattle.schedule_windows.specs.Weeks.{weekday_of}
+use Rattle.schedule_windows.specs.RunDays.{months_within, date_of}
 
 -- the months that fit are the ones whose days fit, up to the next month's
 months_within_is : (y : ℤ) (n k days : ℕ) → k ≤ n → days_of_months y k ≤ days → days < days_of_months y (suc k) → months_within y n days ≡ k

@@ -1,3 +1,4 @@
+pub mod Common
 pub mod Dates
 pub mod Rules
 pub mod Steady

@@ -1,14 +1,8 @@
 -- A window is open at a moment as it is so many seconds after the beginning of a week.
-use Rattle.std.proofs.Common.{◌≡◌, ◌+◌, ◌-◌, ◌*◌, ◌%◌, ◌/◌, ◌<◌, ◌≤◌, ℕ, ℤ, pos, negsuc, ◌+ℤ◌, false, ap, ◌∙◌, subst, arith, inl, inr, unsigned_abs}
-use Rattle.std.specs.Prelude.{nat_lt}
-use Rattle.std.specs.List.{list_any}
-use Rattle.std.specs.Int.{int_rem_euclid}
-use Rattle.std.proofs.lemmas.Bool.Decides.{leb_tells}
-use Rattle.jiff_core.proofs.SignedLemmas.{signed_arith}
+use Rattle.schedule_windows.proofs.Common.{◌≡◌, ◌+◌, ◌-◌, ◌*◌, ◌%◌, ◌/◌, ◌<◌, ◌≤◌, ℕ, ℤ, pos, negsuc, ◌+ℤ◌, false, ap, ◌∙◌, subst, arith, inl, inr, unsigned_abs, nat_lt, list_any, leb_tells, signed_arith, IsClosedBetween, second_of_week, since, spans, ZoneOf, civil_of, int_rem_euclid}
 use Rattle.site_types.specs.declared.window.Windows.{Windows}
-use Rattle.schedule_windows.specs.Opens.{is_open_at, is_open_after, IsClosedBetween}
-use Rattle.schedule_windows.specs.Weeks.{second_of_week, since, spans}
-use Rattle.schedule_windows.specs.Zones.{ZoneOf, civil_of, offset_at}
+use Rattle.schedule_windows.specs.Opens.{is_open_at, is_open_after}
+use Rattle.schedule_windows.specs.Zones.{offset_at}
 
 before_thursday : (q : ℕ) → q ≤ 3 → (negsuc q +ℤ pos 4) ≡ pos (3 - q)
 before_thursday q h = omega (arith, signed_arith)

@@ -1,17 +1,12 @@
 -- When a schedule by calendar comes round.
-use Rattle.std.proofs.Common.{◌≡◌, ◌∙◌, ℕ, ℤ, pos, Bool, true, false, List, refl, sym, ap}
-use Rattle.std.specs.Prelude.{◌&&◌, Option, Some, None, if◌then◌else◌}
-use Rattle.std.specs.Int.{int_div_euclid}
+use Rattle.schedule_windows.proofs.Common.{◌≡◌, ◌∙◌, ℕ, ℤ, pos, Bool, true, false, List, refl, sym, ap, if◌then◌else◌, is_open, opened, start_if_open, int_div_euclid, WeekSpan, is_run_day, is_before, comes_round, is_due_in}
+use Rattle.std.specs.Prelude.{◌&&◌, Option, Some, None}
 use Rattle.site_types.specs.declared.calendar.CalendarItem.{CalendarItem}
 use Rattle.site_types.specs.declared.schedule.Mode.{Mode}
 use Rattle.site_types.specs.declared.schedule.Mode.TheVariants.{Calendar}
 use Rattle.site_types.specs.declared.schedule.Schedule.{Schedule}
 use Rattle.schedule_windows.specs.declared.civil.Civil.{Civil}
-use Rattle.schedule_windows.specs.declared.week.WeekSpan.{WeekSpan}
 use Rattle.schedule_windows.specs.declared.schedule.Last.{Last}
-use Rattle.schedule_windows.specs.RunDays.{is_run_day}
-use Rattle.schedule_windows.specs.Schedules.{is_before, comes_round, is_due_in}
-use Rattle.schedule_windows.specs.Weeks.{is_open, opened, start_if_open}
 
 pub calendar_round : (mode : Mode) (items seen : List CalendarItem) (last : Option Last) (moment : ℕ) (started seen_start day seen_day : ℤ) (named before : Bool) → mode ≡ Calendar items → seen ≡ items → seen_start ≡ started → seen_day ≡ day → day ≡ int_div_euclid seen_start (pos 86_400) → named ≡ is_run_day seen seen_day → before ≡ is_before last seen_start → (named && before) ≡ comes_round mode last moment started
 calendar_round mode items seen last moment started seen_start day seen_day named before e f s g h p q =

@@ -1,14 +1,10 @@
 -- A rule that was read has the offsets of its text.
-use Rattle.std.proofs.Common.{◌≡◌, ℕ, ℤ, pos, neg_ℤ, Bool, true, false, IsTrue, List, Option, Some, None, option_map, refl, ap, ◌∙◌, rules}
-use Rattle.std.specs.Prelude.{if◌then◌else◌}
-use Rattle.std.proofs.lemmas.Bool.{cond-true}
-use Rattle.jiff_core.specs.Timestamp.{nanos_of_seconds}
+use Rattle.schedule_windows.proofs.Common.{◌≡◌, ℕ, ℤ, pos, neg_ℤ, Bool, true, false, IsTrue, List, Option, Some, None, option_map, refl, ap, ◌∙◌, rules, if◌then◌else◌, cond-true, year_of_nanos, read_offset_at, rule_offset_at, FixedOffset, PosixRule, nanos_of_seconds, in_window, dst_at_by, match_some}
 use Rattle.jiff_core.specs.declared.offset.Offset.{Offset}
 use Rattle.jiff_tz.specs.PosixDay.{is_rule_day}
 use Rattle.jiff_tz.specs.PosixReader.{read_whole}
-use Rattle.jiff_tz.specs.PosixRule.{in_window, rule_nanos, utc_window, dst_at_by, match_some}
+use Rattle.jiff_tz.specs.PosixRule.{rule_nanos, utc_window}
 use Rattle.jiff_tz.specs.PosixText.{day_time_view, dst_view, tz_view}
-use Rattle.jiff_tz.specs.Year.{year_of_nanos}
 use Rattle.jiff_tz.specs.declared.posix.Day.{Day}
 use Rattle.jiff_tz.specs.declared.posix.Day.TheVariants.{JulianZero}
 use Rattle.jiff_tz.specs.declared.posix.DayTime.{DayTime}
@@ -16,7 +12,7 @@ use Rattle.jiff_tz.specs.declared.posix.Dst.{Dst}
 use Rattle.jiff_tz.specs.declared.posix.TimeZone.{TimeZone}
 use Rattle.schedule_windows.specs.Ranges.{clamp_to-within}
 use Rattle.schedule_windows.specs.Rules.{offset_of, day_time_of, dst_of, rule_of}
-use Rattle.schedule_windows.specs.Zones.{offset_at, read_offset_at, rule_offset_at, FixedOffset, PosixRule}
+use Rattle.schedule_windows.specs.Zones.{offset_at}
 
 offset_of-seconds : (o : Offset) → (offset_of o.seconds).seconds ≡ o.seconds
 offset_of-seconds o = clamp_to-within _ _ o.seconds o.in_range.0 o.in_range.1

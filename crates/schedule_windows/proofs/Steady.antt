@@ -1,21 +1,15 @@
 -- The offset of a rule stays the same within a year up to the next transition.
-use Rattle.std.proofs.Common.{◌≡◌, ◌+◌, ◌≤◌, ◌/◌, ◌*◌, ℕ, zero, suc, ℤ, pos, ◌-ℤ◌, ◌≤ℤ◌, ◌<ℤ◌, Bool, true, false, cond, not, Option, Some, None, refl, sym, ap, ◌∙◌, arith}
-use Rattle.std.specs.Prelude.{◌&&◌, int_le, int_lt, if◌then◌else◌}
-use Rattle.std.proofs.lemmas.Bool.{false_from_ne_true, true_from_ne_false}
-use Rattle.std.proofs.lemmas.Bool.Decides.{nat_tests}
-use Rattle.std.proofs.lemmas.Int.{by_lt_z}
+use Rattle.schedule_windows.proofs.Common.{◌≡◌, ◌+◌, ◌≤◌, ◌/◌, ◌*◌, ℕ, zero, suc, ℤ, pos, ◌-ℤ◌, ◌≤ℤ◌, ◌<ℤ◌, Bool, true, false, cond, not, Option, Some, None, refl, sym, ap, ◌∙◌, arith, int_le, int_lt, if◌then◌else◌, false_from_ne_true, true_from_ne_false, nat_tests, signed_arith, year_of_nanos, rule_offset_at, by_lt_z, nanos_of_seconds, in_window, ordered, transition_of, next_by, next_year, dst_at_by, match_some}
+use Rattle.std.specs.Prelude.{◌&&◌}
 use borrow.Author.Differences.{lt-true, lt-false}
-use Rattle.jiff_core.specs.Timestamp.{nanos_of_seconds}
 use Rattle.jiff_core.specs.declared.offset.Offset.{Offset}
-use Rattle.jiff_core.proofs.SignedLemmas.{signed_arith}
 use Rattle.jiff_tz.proofs.TzifLemmas.{le_yes, le_no}
-use Rattle.jiff_tz.specs.PosixRule.{in_window, ordered, transition_of, next_by, next_year, utc_window, dst_at_by, match_some}
-use Rattle.jiff_tz.specs.Year.{years_within, year_of_nanos}
+use Rattle.jiff_tz.specs.PosixRule.{utc_window}
+use Rattle.jiff_tz.specs.Year.{years_within}
 use Rattle.jiff_tz.specs.declared.info.OffsetInfo.{OffsetInfo}
 use Rattle.jiff_tz.specs.declared.posix.Dst.{Dst}
 use Rattle.jiff_tz.specs.declared.posix.TimeZone.{TimeZone}
 use Rattle.schedule_windows.specs.Steady.{IsSteady}
-use Rattle.schedule_windows.specs.Zones.{rule_offset_at}
 
 lt_yes : (a b : ℤ) → a <ℤ b → int_lt a b ≡ true
 lt_yes a b h = true_from_ne_false (int_lt a b) (λ e. let over = lt-false a b e in omega (arith, signed_arith))

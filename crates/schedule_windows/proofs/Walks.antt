@@ -1,14 +1,10 @@
 -- Walks over a list of windows, one after the other.
-use Rattle.std.proofs.Common.{◌≡◌, ◌+◌, ℕ, suc, ℤ, Bool, true, false, List, ◌∷◌, take, drop, refl, sym, ap, ◌∙◌, add-one}
-use Rattle.std.specs.Prelude.{◌||◌, Some, Option, None, slice_get, if◌then◌else◌}
-use Rattle.std.specs.List.{list_any}
+use Rattle.schedule_windows.proofs.Common.{◌≡◌, ◌+◌, ℕ, suc, ℤ, Bool, true, false, List, ◌∷◌, take, drop, refl, sym, ap, ◌∙◌, add-one, ◌||◌, slice_get, if◌then◌else◌, list_any, or_right, is_open, opened, start_if_open, first_open, WeekSpan}
+use Rattle.std.specs.Prelude.{Some, Option, None}
 use Rattle.std.proofs.Math.Seq.{drop-cons}
 use Rattle.std.proofs.lemmas.List.Folds.{list_any_more, list_any_at}
-use Rattle.std.proofs.lemmas.Bool.{or_right}
 use Rattle.std.proofs.lemmas.Option.{slice_get_within, get_or_from_slice_get}
 use Rattle.schedule_windows.specs.declared.civil.Civil.{Civil}
-use Rattle.schedule_windows.specs.declared.week.WeekSpan.{WeekSpan}
-use Rattle.schedule_windows.specs.Weeks.{is_open, opened, start_if_open, first_open}
 
 -- one more element of a list
 any_more : {X : Type 0} (p : X → Bool) (xs : List X) (i : ℕ) (x : X) → slice_get xs i ≡ Some x → list_any p (take (i + 1) xs) ≡ (list_any p (take i xs) || p x)

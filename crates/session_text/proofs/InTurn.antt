@@ -1,11 +1,10 @@
 -- The turns of a text, one after another.
-use Rattle.std.proofs.Common.{◌≡◌, ◌<◌, ◌≤◌, ◌+◌, ℕ, zero, suc, Bool, true, false, nat_lt, nat_le, if◌then◌else◌, List, [], ◌∷◌, ◌++◌, length, drop, Option, Some, None, option_map, refl, sym, ◌∙◌, ap, arith, length-drop}
-use Rattle.session_text.specs.Turns.{Turn, request, broken, line_limit, line_end, words_before, payload_size, cut_payload, turn_at, whole_turn, last_turn, first_turn, or_last, turns_from, turns_up_to, turns}
-use Rattle.session_text.specs.Session.{turn_asked, IsNext, IsWhole, IsInTurn, IsCut}
+use Rattle.session_text.proofs.Common.{◌≡◌, ◌<◌, ◌≤◌, ◌+◌, ℕ, zero, suc, Bool, true, false, nat_lt, nat_le, if◌then◌else◌, List, [], ◌∷◌, ◌++◌, length, drop, Option, Some, None, option_map, refl, sym, ◌∙◌, ap, arith, length-drop, Turn, request, broken, line_limit, line_end, words_before, payload_size, cut_payload, turn_at, whole_turn, last_turn, first_turn, or_last, turns_from, turns_up_to, turns, turn_asked, IsNext, IsWhole, IsInTurn, IsCut}
 use Rattle.session_text.specs.declared.session.Next.{Next}
 use Rattle.session_text.specs.declared.session.Next.TheVariants.{Request, Last, Broken, End, Failed, NoMemory}
 use Rattle.std.proofs.lemmas.Option.{same_Some}
 use Rattle.session_text.proofs.Lines.{line_end-within}
+use Rattle.session_text.proofs.Wholes.{first_turn-whole, first_turn-last}
 
 -- a turn behind a test is the one that was taken
 chosen_turn : (test : Bool) (x y : Turn × List ℕ) → (if test then Some x else None) ≡ Some y → (x.0 ≡ y.0) × (x.1 ≡ y.1)
@@ -69,12 +68,6 @@ turns-unfolds text =
 
 pub turns-first : (text : List ℕ) (first : Option (Turn × List ℕ)) → first_turn text ≡ first → turns text ≡ turns_from turns first
 turns-first text first is = turns-unfolds text ∙ ap (λ (o : Option (Turn × List ℕ)). turns_from turns o) is
-
-pub first_turn-whole : (text : List ℕ) (turn : Turn × List ℕ) → whole_turn text ≡ Some turn → first_turn text ≡ Some turn
-first_turn-whole text turn is = ap (λ (o : Option (Turn × List ℕ)). or_last o text) is
-
-pub first_turn-last : (text : List ℕ) (turn : Turn) → whole_turn text ≡ None → last_turn text ≡ Some turn → first_turn text ≡ Some (turn, [])
-first_turn-last text turn none last = ap (λ (o : Option (Turn × List ℕ)). or_last o text) none ∙ ap (λ (o : Option Turn). option_map (λ (t : Turn). (t, [])) o) last
 
 -- what a call hands on
 pub is_next : (text held left : List ℕ) (next : Next) → IsCut text next held left → IsNext text next held left

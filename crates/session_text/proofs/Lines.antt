@@ -1,11 +1,9 @@
 -- Where a line ends.
-use Rattle.std.proofs.Common.{◌≡◌, ◌<◌, ◌≤◌, ◌+◌, ℕ, min, List, ◌++◌, length, take, get_or, Bool, true, false, refl, sym, ◌∙◌, ap, arith, length-append, length-take, position, Some, None}
+use Rattle.session_text.proofs.Common.{◌≡◌, ◌<◌, ◌≤◌, ◌+◌, ℕ, min, List, ◌++◌, length, take, get_or, Bool, true, false, refl, sym, ◌∙◌, ap, arith, length-append, length-take, position, Some, None, take_min, take-append-le, get_or-take, get_or_append_left, line_limit, line_end, is_line_feed}
 use Rattle.std.specs.List.{position_or_len}
-use Rattle.std.proofs.lemmas.List.{take_min, take-append-le, get_or-take, get_or_append_left}
 use Rattle.std.proofs.lemmas.List.Quantifiers.{position-Some}
 use Rattle.std.proofs.lemmas.List.Sums.{position_or_len_is}
 use Rattle.std.proofs.lemmas.Bool.{lt-ltb}
-use Rattle.session_text.specs.Turns.{line_limit, line_end, is_line_feed}
 
 pub front_is : (n m : ℕ) (xs : List ℕ) → m ≡ min (length xs) n → take m xs ≡ take n xs
 front_is n m xs is = ap (λ (k : ℕ). take k xs) (is ∙ grind arith) ∙ take_min n xs

@@ -1,9 +1,7 @@
 -- Whole turns, and those that are cut off.
-use Rattle.std.proofs.Common.{◌≡◌, ◌<◌, ◌≤◌, ◌+◌, ℕ, zero, suc, min, List, [], ◌∷◌, ◌++◌, length, take, drop, refl, sym, ◌∙◌, ap, subst, arith, append_assoc, length-append, length-take, take-append-drop, inl, inr, option_map, Option, Some, None}
-use Rattle.std.proofs.lemmas.List.{take_all, drop_all, take_at, drop_at, take-take, take-append-le, drop-append-le, drop-drop, append-nil, length-take-le, drop_min}
+use Rattle.session_text.proofs.Common.{first_turn, ◌≡◌, ◌<◌, ◌≤◌, ◌+◌, ℕ, zero, suc, min, List, [], ◌∷◌, ◌++◌, length, take, drop, refl, sym, ◌∙◌, ap, subst, arith, append_assoc, length-append, length-take, take-append-drop, inl, inr, option_map, Option, Some, None, take_all, drop_all, take_at, drop_at, take-take, take-append-le, drop-append-le, drop-drop, length-take-le, drop_min, Turn, request, broken, line_limit, line_end, words_of, without_return, words_before, payload_size, asked_words, last_index, turn_of, turn_at, whole_turn, last_turn, or_last, cut_off, turn_without_end, BreaksAt, IsCut, IsLast}
+use Rattle.std.proofs.lemmas.List.{append-nil}
 use Rattle.std.proofs.lemmas.Bool.{cases_lt, le-leb, lt-leb, lt-ltb, le-ltb}
-use Rattle.session_text.specs.Turns.{Turn, request, broken, line_limit, line_end, words_of, without_return, words_before, payload_size, asked_words, last_index, turn_of, turn_at, whole_turn, last_turn, or_last, cut_off, turn_without_end}
-use Rattle.session_text.specs.Session.{BreaksAt, IsCut, IsLast}
 use Rattle.session_text.specs.declared.session.Next.{Next}
 use Rattle.session_text.specs.declared.session.Next.TheVariants.{Request, Last, Broken, End, Failed, NoMemory}
 use Rattle.session_text.proofs.Lines.{line_end-within, line_end-more, line_end-take, line_end-long}
@@ -79,11 +77,11 @@ none_cut a payload end size ends sized short =
     whole_turn-cut a payload end ends ∙ rw (sized, lt-leb size (length payload) short) refl
 
 -- faults in the framing
-pub breaks_last : (text : List ℕ) (index : ℕ) → whole_turn text ≡ None → last_turn text ≡ Some (broken index) → BreaksAt text index
-breaks_last text index none last = ([], ap (λ (o : Option (Turn × List ℕ)). or_last o text) none ∙ ap (λ (o : Option Turn). option_map (λ (turn : Turn). (turn, [])) o) last)
+pub first_turn-whole : (text : List ℕ) (turn : Turn × List ℕ) → whole_turn text ≡ Some turn → first_turn text ≡ Some turn
+first_turn-whole text turn is = ap (λ (o : Option (Turn × List ℕ)). or_last o text) is
 
-pub breaks_whole : (text : List ℕ) (index : ℕ) (rest : List ℕ) → whole_turn text ≡ Some (broken index, rest) → BreaksAt text index
-breaks_whole text index rest is = (rest, ap (λ (o : Option (Turn × List ℕ)). or_last o text) is)
+pub first_turn-last : (text : List ℕ) (turn : Turn) → whole_turn text ≡ None → last_turn text ≡ Some turn → first_turn text ≡ Some (turn, [])
+first_turn-last text turn none last = ap (λ (o : Option (Turn × List ℕ)). or_last o text) none ∙ ap (λ (o : Option Turn). option_map (λ (t : Turn). (t, [])) o) last
 
 pub last_turn-line : (text : List ℕ) (end : ℕ) → line_end text ≡ Some end → last_turn text ≡ Some (broken (last_index (words_before end text)))
 last_turn-line [] end ends = absurd (omega (arith, line_end-within [] end ends))
@@ -92,17 +90,19 @@ last_turn-line (byte ∷ text) end ends = ap (λ (o : Option ℕ). Some (cut_off
 pub breaks_cut : (a payload : List ℕ) (end size index : ℕ) → line_end a ≡ Some end → payload_size (words_before end a) ≡ Some size → length payload < size → index ≡ last_index (words_before end a) → BreaksAt (take (end + 1) a ++ payload) index
 breaks_cut a payload end size index ends sized short is =
     let within : end < length (take (end + 1) a) = line_end-within (take (end + 1) a) end (line_end-take (end + 1) a end (omega arith) ends) in
-    let front = words_before-more end (take (end + 1) a) payload (omega arith) ∙ words_before-cut a end in
-    breaks_last (take (end + 1) a ++ payload) index (none_cut a payload end size ends sized short)
-    (last_turn-line (take (end + 1) a ++ payload) end (line_end-cut a payload end ends) ∙ rw (front, is) refl)
+    let front = words_before-more end (take (end + 1) a) payload (omega arith) ∙ words_before-cut a end in (
+      [],
+      first_turn-last (take (end + 1) a ++ payload) (broken index) (none_cut a payload end size ends sized short)
+          (last_turn-line (take (end + 1) a ++ payload) end (line_end-cut a payload end ends) ∙ rw (front, is) refl),
+    )
 
 pub breaks_word : (a left : List ℕ) (end index : ℕ) → line_end a ≡ Some end → payload_size (words_before end a) ≡ None → index ≡ last_index (words_before end a) → BreaksAt (a ++ left) index
 breaks_word a left end index ends bad is =
-    breaks_whole (a ++ left) index (drop (end + 1) a ++ left) (whole_turn-line a left end ends ∙ rw (bad, is) refl)
+    (drop (end + 1) a ++ left, first_turn-whole (a ++ left) (broken index, drop (end + 1) a ++ left) (whole_turn-line a left end ends ∙ rw (bad, is) refl))
 
 pub breaks_long : (a left : List ℕ) → line_end a ≡ None → line_limit < length a → BreaksAt (a ++ left) 0
 breaks_long a left none long =
-    breaks_whole (a ++ left) 0 (a ++ left) (rw (line_end-long a left none long, lt-ltb line_limit (length (a ++ left)) (omega (arith, length-append a left))) refl)
+    (a ++ left, first_turn-whole (a ++ left) (broken 0, a ++ left) (rw (line_end-long a left none long, lt-ltb line_limit (length (a ++ left)) (omega (arith, length-append a left))) refl))
 
 -- a text without a whole line that isn't too long
 pub none_open : (a : List ℕ) → line_end a ≡ None → length a ≤ line_limit → whole_turn a ≡ None
@@ -117,7 +117,7 @@ ended_here : (a held : List ℕ) (next : Next) → whole_turn a ≡ None → IsL
 ended_here a held (Request asked) none last = absurd last
 ended_here a held (Last asked) none last = (none, last.0, append-nil held ∙ last.1)
 ended_here a held (Broken index) none last =
-    let here = breaks_last a index none last.0 in
+    let here : BreaksAt a index = ([], first_turn-last a (broken index) none last.0) in
     (append-nil held ∙ last.1, here, subst (λ (t : List ℕ). BreaksAt t index) (sym last.1) here)
 ended_here a held End none last = (last.0, append-nil held ∙ last.1)
 ended_here a held Failed none last = absurd last

@@ -1,9 +1,8 @@
 -- Dates of a year, a month and a day.
-use Rattle.std.proofs.Common.{◌≡◌, ℕ, Bool, true, false, refl, ap}
-use Rattle.std.specs.Prelude.{Some, None, Option, MatchOption}
+use Rattle.site_types.proofs.Common.{◌≡◌, ℕ, Bool, true, false, refl, ap, MatchOption, date_if, date_of}
+use Rattle.std.specs.Prelude.{Some, None, Option}
 use Rattle.std.proofs.Math.Bool.{Bool-set}
 use Rattle.site_types.specs.Dates.{is_date}
-use Rattle.site_types.specs.Calendars.{date_if, date_of}
 use Rattle.site_types.specs.declared.calendar.Day.{Day}
 use mathlib.Core.HLevel.{is_prop→PathP}
 

@@ -1,17 +1,7 @@
 -- Calendars are written as they are read.
-use Rattle.std.proofs.Common.{◌%◌, ◌≡◌, ◌≤◌, ◌-◌, ◌+◌, ℕ, List, [], ◌∷◌, length, take, drop, map, Bool, true, false, refl, sym, ◌∙◌, ap, ap₂, arith}
-use Rattle.std.specs.Prelude.{Some, None, Option, ◌==◌, nat_le, codes, if◌then◌else◌, ◌&&◌, option_map}
-use Rattle.std.specs.Fmt.{decimal}
-use Rattle.std.specs.List.{slice_index, slice_range}
-use Rattle.std.specs.Option.{option_and_then}
-use Rattle.std.proofs.lemmas.Bool.{and_parts, leb-true, eqb-true}
-use Rattle.site_types.specs.Calendars.{week_of, weekday_item_of, month_day_of, date_if, date_of, day_of, calendar_item_of, calendar_of}
-use Rattle.site_types.specs.CalendarTexts.{four_digits, day_text, week_text, month_day_text, item_text, calendar_text}
+use Rattle.site_types.proofs.Common.{◌%◌, ◌≡◌, ◌≤◌, ◌-◌, ◌+◌, ℕ, List, [], ◌∷◌, length, take, drop, map, Bool, true, false, refl, sym, ◌∙◌, ap, ap₂, arith, ◌==◌, nat_le, decimal, slice_index, slice_range, option_and_then, and_parts, leb-true, eqb-true, week_of, weekday_item_of, month_day_of, date_if, date_of, day_of, calendar_item_of, calendar_of, four_digits, day_text, week_text, month_day_text, item_text, calendar_text, digits_of, number_up_to, weekday_named, two_digits}
+use Rattle.std.specs.Prelude.{Some, None, Option, codes, if◌then◌else◌, ◌&&◌, option_map}
 use Rattle.site_types.specs.Dates.{is_date}
-use Rattle.site_types.specs.Digits.{digits_of}
-use Rattle.site_types.specs.Numbers.{number_up_to}
-use Rattle.site_types.specs.Weekdays.{weekday_named}
-use Rattle.site_types.specs.ZoneWords.{two_digits}
 use Rattle.site_types.specs.declared.calendar.Day.{Day}
 use Rattle.site_types.specs.declared.calendar.CalendarItem.{CalendarItem}
 use Rattle.site_types.specs.declared.calendar.CalendarItem.TheVariants.{Date, Weekday, MonthDay, Exclude}

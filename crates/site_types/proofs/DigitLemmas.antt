@@ -1,15 +1,9 @@
 -- Texts of digits.
-use Rattle.std.proofs.Common.{◌≡◌, ◌≤◌, ℕ, List, length, Bool, true, arith, rules}
-use Rattle.std.specs.Prelude.{Some, None, Result, Ok, if◌then◌else◌, ◌&&◌, ◌==◌}
+use Rattle.site_types.proofs.Common.{◌≡◌, ◌≤◌, ℕ, List, length, Bool, true, arith, rules, ◌==◌, list_all, IsUtf8, digits_value, ParsesUnsigned, nat_tests, IsUtf8-from_ascii, digits_of}
+use Rattle.std.specs.Prelude.{Some, None, Result, Ok, if◌then◌else◌, ◌&&◌}
 use Rattle.std.specs.Char.{is_ascii_digit}
-use Rattle.std.specs.List.{list_all}
-use Rattle.std.specs.Str.{IsUtf8}
-use Rattle.std.specs.Str.Parse.{digits_value, ParsesUnsigned}
-use Rattle.std.proofs.lemmas.Bool.Decides.{nat_tests}
 use Rattle.std.proofs.lemmas.Str.Parse.{IsNumeralModel, numerals_by_value, digits_value_short, parse_gives}
 use Rattle.std.proofs.lemmas.Fmt.{IsAscii-from_digits}
-use Rattle.std.proofs.lemmas.Str.{IsUtf8-from_ascii}
-use Rattle.site_types.specs.Digits.{digits_of}
 
 own : IsNumeralModel (λ ds. list_all is_ascii_digit ds ≡ true) (digits_value 10)
 own = numerals_by_value _ (search rules)

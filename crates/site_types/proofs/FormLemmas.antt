@@ -1,12 +1,5 @@
 -- The words of a form in the order of its keys: they give the same values as the words that were read, and none of them is bad.
-use Rattle.std.proofs.Common.{◌≡◌, ℕ, ◌+◌, List, [], ◌∷◌, ◌++◌, Bool, true, false, not, ◌&&◌, ◌||◌, if◌then◌else◌, Option, Some, None, refl, sym, ap, ◌∙◌}
-use Rattle.std.specs.List.{list_all}
-use Rattle.std.specs.Str.{bytes_eq}
-use Rattle.std.proofs.lemmas.Bool.{and_from, or_left, or_right, or_from, not_from_false, not-true, false_from_ne_true, true≢false, false≢true}
-use Rattle.std.proofs.lemmas.List.Folds.{list_any-append}
-use Rattle.std.proofs.lemmas.Slice.Eq.{bytes_eq-Decides}
-use Rattle.site_types.specs.Keys.{Key, is_word, has_equals, key_of, value_of, allows, has_key, is_good, first_bad, has_name, value_among}
-use Rattle.site_types.specs.Lines.{Field, words_with, word_with}
+use Rattle.site_types.proofs.Common.{◌≡◌, ℕ, ◌+◌, List, [], ◌∷◌, ◌++◌, Bool, true, false, not, ◌&&◌, ◌||◌, if◌then◌else◌, Option, Some, None, refl, sym, ap, ◌∙◌, list_all, bytes_eq, and_from, and_parts, or_left, or_right, or_from, not_from_false, not-true, false_from_ne_true, true≢false, list_any-append, bytes_eq-Decides, Key, is_word, key_of, value_of, allows, has_key, is_good, first_bad, has_name, value_among, Field, words_with, word_with}
 use Rattle.site_types.proofs.OptionLemmas.{same_value}
 use Rattle.site_types.proofs.WordLemmas.{is_key, key_of-word_with, value_of-word_with, has_equals-word_with, is_word-word_with, is_word-value_of}
 
@@ -30,12 +23,8 @@ AreAllowed keys words = (name value : List ℕ) → value_among name words ≡ S
 
 -- Words of which none is bad.
 
-good_parts : (a b c d : Bool) → (a && b && c && d) ≡ true → (a ≡ true) × (b ≡ true) × (c ≡ true) × (d ≡ true)
-good_parts true true true true is = (refl, refl, refl, refl)
-good_parts true true true false is = absurd (false≢true is)
-good_parts true true false d is = absurd (false≢true is)
-good_parts true false c d is = absurd (false≢true is)
-good_parts false b c d is = absurd (false≢true is)
+good_parts : (keys : List Key) (earlier : List (List ℕ)) (word : List ℕ) → is_good keys earlier word ≡ true → (is_word word ≡ true) × (allows keys (key_of word) (value_of word) ≡ true)
+good_parts keys earlier word is = let front = (and_parts _ _ is).0 in ((and_parts _ _ (and_parts _ _ front).0).0, (and_parts _ _ front).1)
 
 passed : (b : Bool) (rest : Option ℕ) (index : ℕ) → (if b then rest else Some index) ≡ None → (b ≡ true) × (rest ≡ None)
 passed true rest index none = (refl, none)
@@ -52,10 +41,10 @@ pub are_allowed : (keys : List Key) (earlier : List (List ℕ)) (at : ℕ) (word
 are_allowed keys earlier at [] none name value given = absurd (none_given value given)
 are_allowed keys earlier at (word ∷ words) none name value given =
     let here = passed (is_good keys earlier word) (first_bad keys (earlier ++ word ∷ []) (at + 1) words) at none in
-    let parts = good_parts (is_word word) (has_equals word) (allows keys (key_of word) (value_of word)) (not (has_key (key_of word) earlier)) here.0 in
+    let parts = good_parts keys earlier word here.0 in
     found (bytes_eq (key_of word) name) (value_of word) value (value_among name words) _
     (λ named is.
-    (sym (λ i. allows keys ((bytes_eq-Decides (key_of word) name).0 named i) (is i)) ∙ parts.2, sym (ap is_word is) ∙ is_word-value_of word parts.0))
+    (sym (λ i. allows keys ((bytes_eq-Decides (key_of word) name).0 named i) (is i)) ∙ parts.1, sym (ap is_word is) ∙ is_word-value_of word parts.0))
     (are_allowed keys (earlier ++ word ∷ []) (at + 1) words here.1 name value)
     given
 
@@ -63,7 +52,7 @@ pub are_words : (keys : List Key) (earlier : List (List ℕ)) (at : ℕ) (words 
 are_words keys earlier at [] none = refl
 are_words keys earlier at (word ∷ words) none =
     let here = passed (is_good keys earlier word) (first_bad keys (earlier ++ word ∷ []) (at + 1) words) at none in
-    let parts = good_parts (is_word word) (has_equals word) (allows keys (key_of word) (value_of word)) (not (has_key (key_of word) earlier)) here.0 in
+    let parts = good_parts keys earlier word here.0 in
     and_from (is_word word) (list_all is_word words) parts.0 (are_words keys (earlier ++ word ∷ []) (at + 1) words here.1)
 
 -- The words in the order of the keys.
@@ -87,14 +76,8 @@ given_by name k keys words (Some value) is key others =
     (λ i. if bytes_eq (key_of-word_with k.name value key i) name then Some (value_of-word_with k.name value key i) else others i)
     ∙ either_gives (bytes_eq k.name name) (has_name name keys) (value_among name words) (Some value) (λ named. sym is ∙ ap (λ (n : List ℕ). value_among n words) ((bytes_eq-Decides k.name name).0 named))
 
-table_parts : (a b c : Bool) → (a && b && c) ≡ true → (a ≡ true) × (b ≡ true) × (c ≡ true)
-table_parts true true true is = (refl, refl, refl)
-table_parts true true false is = absurd (false≢true is)
-table_parts true false c is = absurd (false≢true is)
-table_parts false b c is = absurd (false≢true is)
-
 parts_of : (k : Key) (keys : List Key) → is_table (k ∷ keys) ≡ true → (is_key k.name ≡ true) × (not (has_name k.name keys) ≡ true) × (is_table keys ≡ true)
-parts_of k keys table = table_parts (is_key k.name) (not (has_name k.name keys)) (is_table keys) table
+parts_of k keys table = let front = (and_parts _ _ table).0 in ((and_parts _ _ front).0, (and_parts _ _ front).1, (and_parts _ _ table).1)
 
 -- the words in the order of the keys give each of them the same value
 pub value_ordered : (name : List ℕ) (keys : List Key) (words : List (List ℕ)) → is_table keys ≡ true → value_among name (ordered keys words) ≡ (if has_name name keys then value_among name words else None)

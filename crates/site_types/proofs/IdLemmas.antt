@@ -1,9 +1,7 @@
 -- The last underscore of a text.
-use Rattle.std.proofs.Common.{arith, ◌≡◌, ◌≢◌, ◌≤◌, ◌<◌, ◌-◌, ◌+◌, ℕ, List, length, get_or, ap, ◌∙◌, eq-eqb, ne_eqb}
+use Rattle.site_types.proofs.Common.{arith, ◌≡◌, ◌≢◌, ◌≤◌, ◌<◌, ◌-◌, ◌+◌, ℕ, List, length, get_or, ap, ◌∙◌, eq-eqb, ne_eqb, suffix_len, is_underscore}
 use Rattle.std.specs.Prelude.{not}
-use Rattle.std.specs.List.{suffix_len}
 use Rattle.std.proofs.lemmas.List.Sums.{suffix_len_is}
-use Rattle.site_types.specs.Ids.{is_underscore}
 
 pub behind_last : (bytes : List ℕ) (at : ℕ) → at < length bytes → get_or bytes at 0 ≡ 95 → ((k : ℕ) → at + 1 ≤ k → k < length bytes → get_or bytes k 0 ≢ 95)
     → suffix_len (λ b. not (is_underscore b)) bytes ≡ length bytes - (at + 1)

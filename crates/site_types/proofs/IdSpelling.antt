@@ -1,15 +1,8 @@
 -- The id that a text is, is written as that text.
-use Rattle.std.proofs.Common.{subst, ◌≡◌, ◌<◌, ◌≤◌, ◌-◌, ◌+◌, ℕ, List, ◌∷◌, ◌++◌, length, get_or, take, drop, reverse, true, false, refl, sym, ◌∙◌, ap, ap₂, arith, length-take, take-append-drop}
-use Rattle.std.specs.Prelude.{Some, None, Option, not, nat_le, ◌&&◌}
-use Rattle.std.specs.List.{suffix_len, before_last, after_last, list_all}
-use Rattle.std.proofs.lemmas.Bool.{and_parts, leb-true}
-use Rattle.std.proofs.lemmas.Bool.Decides.{nat_tests}
-use Rattle.std.proofs.lemmas.List.{drop_more, get_or-reverse, length-reverse}
+use Rattle.site_types.proofs.Common.{subst, ◌≡◌, ◌<◌, ◌≤◌, ◌-◌, ◌+◌, ℕ, List, ◌∷◌, ◌++◌, length, get_or, take, drop, reverse, true, false, refl, sym, ◌∙◌, ap, ap₂, arith, length-take, take-append-drop, nat_le, suffix_len, before_last, after_last, list_all, and_parts, leb-true, nat_tests, drop_more, get_or-reverse, length-reverse, id_text, is_underscore, id_made, id_of, is_name, is_name_byte, number_between}
+use Rattle.std.specs.Prelude.{Some, None, Option, not, ◌&&◌}
 use Rattle.std.proofs.lemmas.List.Sums.{prefix_len_stops, suffix_len-le-length}
-use Rattle.site_types.specs.Ids.{id_text, is_underscore, id_made, id_of}
 use Rattle.site_types.specs.Limits.{last_moment}
-use Rattle.site_types.specs.Names.{is_name, is_name_byte}
-use Rattle.site_types.specs.Numbers.{number_between}
 use Rattle.site_types.specs.declared.id.BackupId.{BackupId}
 use Rattle.site_types.proofs.OptionLemmas.{guarded, same_value}
 use Rattle.site_types.proofs.WordSpelling.{number_spelled}

@@ -1,9 +1,6 @@
 -- Values that are read one by one from a text in which plus signs join them.
-use Rattle.std.proofs.Common.{◌≡◌, ◌<◌, ◌+◌, ℕ, List, [], ◌∷◌, length, get_or, take, map, zero, suc, ◌++◌, refl, sym, ◌∙◌, ap, arith}
+use Rattle.site_types.proofs.Common.{◌≡◌, ◌<◌, ◌+◌, ℕ, List, [], ◌∷◌, length, get_or, take, map, zero, suc, ◌++◌, refl, sym, ◌∙◌, ap, arith, option_and_then, map_more, each_of}
 use Rattle.std.specs.Prelude.{Some, None, Option, option_map}
-use Rattle.std.specs.Option.{option_and_then}
-use Rattle.std.proofs.lemmas.List.{map_more}
-use Rattle.site_types.specs.Joined.{each_of}
 
 abbrev behind : {A : Type 0} → Option A → Option (List A) → Option (List A)
 behind first rest = option_and_then (λ value. option_map (λ values. value ∷ values) rest) first

@@ -1,9 +1,7 @@
 -- Values that plus signs join are written as they are read.
-use Rattle.std.proofs.Common.{◌≡◌, ◌≤◌, ℕ, List, [], ◌∷◌, length, map, sym, ◌∙◌, ap, ap₂, arith}
-use Rattle.std.specs.Prelude.{Some, Option, option_map, nat_le}
-use Rattle.std.specs.List.{slice_split, join_with_byte}
+use Rattle.site_types.proofs.Common.{◌≡◌, ◌≤◌, ℕ, List, [], ◌∷◌, length, map, sym, ◌∙◌, ap, ap₂, arith, nat_le, slice_split, join_with_byte, is_plus, each_of, joined_of}
+use Rattle.std.specs.Prelude.{Some, Option, option_map}
 use Rattle.std.proofs.lemmas.List.Splits.{join_with_byte-slice_split, length-slice_split}
-use Rattle.site_types.specs.Joined.{is_plus, each_of, joined_of}
 use Rattle.site_types.proofs.OptionLemmas.{guarded, chained, same_value, mapped}
 
 each_spelled : {A : Type 0} (spelled : List ℕ → Option A) (write : A → List ℕ) → ((t : List ℕ) (x : A) → spelled t ≡ Some x → write x ≡ t) → (texts : List (List ℕ)) (values : List A) → each_of spelled texts ≡ Some values → map write values ≡ texts

@@ -1,8 +1,5 @@
 -- Lists that are joined by a byte: the first, and each further one with that byte before it.
-use Rattle.std.proofs.Common.{◌≡◌, ◌≤◌, ℕ, List, [], ◌∷◌, ◌++◌, length, take, map, ap, sym, ◌∙◌, append_assoc}
-use Rattle.std.specs.List.{flat_map, join_with_byte}
-use Rattle.std.proofs.lemmas.List.{append-nil, take_all}
-use Rattle.std.proofs.lemmas.List.Folds.{flat_map-map}
+use Rattle.site_types.proofs.Common.{◌≡◌, ◌≤◌, ℕ, List, [], ◌∷◌, ◌++◌, length, take, map, ap, sym, ◌∙◌, append_assoc, flat_map, join_with_byte, append-nil, take_all, flat_map-map}
 
 pub join_with_byte-spaced : (c : ℕ) (text : List ℕ) (texts : List (List ℕ)) → join_with_byte c (text ∷ texts) ≡ text ++ flat_map (λ t. c ∷ t) texts
 join_with_byte-spaced c text [] = sym (append-nil text)

@@ -1,10 +1,5 @@
 -- Values that were read, written again, are the texts that were read.
-use Rattle.std.proofs.Common.{◌≡◌, ℕ, List, true, if◌then◌else◌, Option, Some, None, option_map, is_some, refl, ap, ◌∙◌}
-use Rattle.std.specs.Option.{option_and_then}
-use Rattle.std.specs.Fmt.{decimal}
-use Rattle.site_types.specs.Keys.{name_of}
-use Rattle.site_types.specs.Names.{is_name}
-use Rattle.site_types.specs.Numbers.{number_between}
+use Rattle.site_types.proofs.Common.{◌≡◌, ℕ, List, true, if◌then◌else◌, Option, Some, None, option_map, is_some, refl, ap, ◌∙◌, option_and_then, decimal, name_of, is_name, number_between}
 use Rattle.site_types.proofs.WordSpelling.{name_spelled, number_spelled}
 
 -- a value, where there is one, is in this grammar

@@ -1,3 +1,4 @@
+pub mod Common
 pub mod IdLemmas
 pub mod CalendarLemmas
 pub mod DigitLemmas

@@ -1,13 +1,8 @@
 -- A line is its form, and what each key adds to it.
-use Rattle.std.proofs.Common.{◌≡◌, ◌≤◌, ℕ, List, [], ◌∷◌, ◌++◌, length, refl, ap, sym, ◌∙◌, append_assoc, arith}
+use Rattle.site_types.proofs.Common.{◌≡◌, ◌≤◌, ℕ, List, [], ◌∷◌, ◌++◌, length, refl, ap, sym, ◌∙◌, append_assoc, arith, flat_map, join_with_byte, append-nil, form_of, words_behind, Field, words_with, fields_of, line_of, Request}
 use Rattle.std.specs.Prelude.{Option, Some, None}
-use Rattle.std.specs.List.{flat_map, join_with_byte}
-use Rattle.std.proofs.lemmas.List.{append-nil}
 use Rattle.site_types.proofs.JoinedTextLemmas.{join_with_byte-spaced}
-use Rattle.site_types.specs.Forms.{form_of, words_behind}
-use Rattle.site_types.specs.Lines.{Field, words_with, fields_of, line_of}
 use Rattle.site_types.specs.LineTexts.{word_text, fields_text, form_text}
-use Rattle.site_types.specs.declared.request.Request.{Request}
 
 pub ruleset appends = (append_assoc, append-nil)
 

@@ -1,14 +1,7 @@
 -- A text spells a number exactly where it is what is written of it.
-use Rattle.std.proofs.Common.{◌≡◌, ◌<◌, ◌≤◌, ◌^◌, ℕ, List, Bool, true, false, refl, sym, ◌∙◌, ap, subst, arith}
-use Rattle.std.specs.Prelude.{Some, None, if◌then◌else◌, nat_le, ◌&&◌}
-use Rattle.std.specs.Fmt.{decimal}
-use Rattle.std.specs.Str.{bytes_eq, IsUtf8}
-use Rattle.std.specs.Str.Parse.{digits_value}
+use Rattle.site_types.proofs.Common.{◌≡◌, ◌<◌, ◌≤◌, ◌^◌, ℕ, List, Bool, true, false, refl, sym, ◌∙◌, ap, subst, arith, nat_le, decimal, bytes_eq, IsUtf8, digits_value, IsUtf8-from_ascii, bytes_eq-Decides, nat_tests, number_up_to}
+use Rattle.std.specs.Prelude.{Some, None, if◌then◌else◌, ◌&&◌}
 use Rattle.std.proofs.lemmas.Fmt.{decimal_is_IsNumeral, IsAscii-decimal}
-use Rattle.std.proofs.lemmas.Str.{IsUtf8-from_ascii}
-use Rattle.std.proofs.lemmas.Slice.Eq.{bytes_eq-Decides}
-use Rattle.std.proofs.lemmas.Bool.Decides.{nat_tests}
-use Rattle.site_types.specs.Numbers.{number_up_to}
 
 chosen : (a b : Bool) (n : ℕ) → a ≡ true → b ≡ true → (if a && b then Some n else None) ≡ Some n
 chosen a b n p q = (λ i. if p i && q i then Some n else None)

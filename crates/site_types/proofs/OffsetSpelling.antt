@@ -1,13 +1,6 @@
 -- An offset, and a time of the day, are written as they are read.
-use Rattle.std.proofs.Common.{◌≡◌, ◌+◌, ◌*◌, ◌/◌, ◌%◌, ℕ, zero, suc, ℤ, pos, negsuc, neg_ℤ, unsigned_abs, List, ◌∷◌, ◌++◌, length, take, drop, Bool, true, false, refl, sym, ◌∙◌, ap, arith}
-use Rattle.std.specs.Prelude.{Some, None, ◌==◌, nat_le, nat_lt, if◌then◌else◌, ◌&&◌}
-use Rattle.std.specs.List.{slice_index, slice_range}
-use Rattle.std.proofs.lemmas.Bool.{and_parts, ltb-true, eqb-true}
-use Rattle.std.proofs.lemmas.List.{drop_more}
-use Rattle.site_types.specs.Digits.{digits_of}
-use Rattle.site_types.specs.WindowTexts.{clock_text}
-use Rattle.site_types.specs.WindowWords.{second_at, second_of}
-use Rattle.site_types.specs.ZoneWords.{seconds_of, signed, offset_of, two_digits, sign_of, offset_text}
+use Rattle.site_types.proofs.Common.{◌≡◌, ◌+◌, ◌*◌, ◌/◌, ◌%◌, ℕ, zero, suc, ℤ, pos, negsuc, neg_ℤ, unsigned_abs, List, ◌∷◌, ◌++◌, length, take, drop, Bool, true, false, refl, sym, ◌∙◌, ap, arith, ◌==◌, nat_le, slice_index, slice_range, and_parts, ltb-true, eqb-true, drop_more, digits_of, clock_text, second_at, second_of, seconds_of, signed, offset_of, two_digits, sign_of, offset_text}
+use Rattle.std.specs.Prelude.{Some, None, nat_lt, if◌then◌else◌, ◌&&◌}
 use Rattle.site_types.proofs.PieceSpelling.{cut_between, three_parts, two_spelled}
 use Rattle.site_types.proofs.OptionLemmas.{guarded, chained, same_value}
 

@@ -1,7 +1,6 @@
 -- What is known where an option has a value.
-use Rattle.std.proofs.Common.{◌≡◌, Bool, true, false, refl}
+use Rattle.site_types.proofs.Common.{◌≡◌, Bool, true, false, refl, option_and_then}
 use Rattle.std.specs.Prelude.{Some, None, Option, option_map, if◌then◌else◌}
-use Rattle.std.specs.Option.{option_and_then}
 
 -- a test that guards a value has passed where there is one
 pub guarded : {A : Type 0} (b : Bool) (o : Option A) (x : A) → (if b then o else None) ≡ Some x → (b ≡ true) × (o ≡ Some x)

@@ -1,16 +1,7 @@
 -- Parts of a text: digits, and what stands between separators.
-use Rattle.std.proofs.Common.{◌≡◌, ◌<◌, ◌≤◌, ◌+◌, ◌*◌, ◌/◌, ◌%◌, ℕ, List, [], ◌∷◌, ◌++◌, length, take, drop, true, sym, ◌∙◌, ap, ap₂, append_assoc, arith, take-append-drop}
-use Rattle.std.specs.Prelude.{Some, ◌==◌, nat_le, ◌&&◌}
+use Rattle.site_types.proofs.Common.{◌≡◌, ◌<◌, ◌≤◌, ◌+◌, ◌*◌, ◌/◌, ◌%◌, ℕ, List, [], ◌∷◌, ◌++◌, length, take, drop, true, sym, ◌∙◌, ap, ap₂, append_assoc, arith, take-append-drop, ◌==◌, nat_le, slice_index, slice_range, list_all, digits_value, and_parts, leb-true, eqb-true, drop_more, drop_split, digit_value_digit, four_digits, digits_of, two_digits}
+use Rattle.std.specs.Prelude.{Some, ◌&&◌}
 use Rattle.std.specs.Char.{is_ascii_digit, digit_value}
-use Rattle.std.specs.List.{slice_index, slice_range, list_all}
-use Rattle.std.specs.Str.Parse.{digits_value}
-use Rattle.std.proofs.lemmas.Bool.{and_parts, leb-true, eqb-true}
-use Rattle.std.proofs.lemmas.List.{drop_more}
-use Rattle.std.proofs.lemmas.List.Folds.{drop_split}
-use Rattle.std.proofs.lemmas.Str.{digit_value_digit}
-use Rattle.site_types.specs.CalendarTexts.{four_digits}
-use Rattle.site_types.specs.Digits.{digits_of}
-use Rattle.site_types.specs.ZoneWords.{two_digits}
 use Rattle.site_types.proofs.OptionLemmas.{guarded, same_value}
 
 -- what stands from one place on is what stands before a separator, the separator, and what stands behind it

@@ -1,19 +1,11 @@
 -- A form is read again from its words in the order of the keys, where its values are spelled in one way.
-use Rattle.std.proofs.Common.{◌≡◌, ℕ, List, [], ◌∷◌, ◌++◌, length, drop, map, Bool, true, false, cond, if◌then◌else◌, Option, Some, None, Result, Ok, Err, refl, sym, ap, ◌∙◌}
-use Rattle.std.specs.Prelude.{find, option_map, IfSome}
-use Rattle.std.specs.List.{list_all, list_any, join_with_byte, slice_split}
-use Rattle.std.proofs.lemmas.List.Folds.{list_all-append}
-use Rattle.std.specs.Str.{bytes_eq}
-use Rattle.std.proofs.lemmas.Bool.{and_from, or_left, or_right}
-use Rattle.std.proofs.lemmas.Slice.Eq.{bytes_eq-Decides}
-use Rattle.site_types.specs.Forms.{Form, begins, count_of, form_among, form_named, form_names, form_words, forms, row_stated, spelled, words_behind}
-use Rattle.site_types.specs.Keys.{Key, Given, is_word, allows, first_bad, given_among, value_among, has_name}
-use Rattle.site_types.specs.Lines.{Field, fields_by, is_space, words_of, words_with, IsFormed}
+use Rattle.site_types.proofs.Common.{◌≡◌, ℕ, List, [], ◌∷◌, ◌++◌, length, drop, map, Bool, true, false, cond, if◌then◌else◌, Option, Some, None, Result, Ok, Err, refl, sym, ap, ◌∙◌, find, IfSome, list_all, list_any, join_with_byte, slice_split, list_all-append, bytes_eq, and_from, or_left, or_right, bytes_eq-Decides, Form, begins, count_of, form_among, form_named, form_names, form_words, row_stated, spelled, words_behind, Key, Given, is_word, allows, first_bad, given_among, value_among, has_name, Field, fields_by, is_space, words_of, words_with, IsFormed, Request}
+use Rattle.std.specs.Prelude.{option_map}
+use Rattle.site_types.specs.Forms.{forms}
 use Rattle.site_types.specs.Requests.{unless_bad, form_read, formless, read_as, read_words}
 use Rattle.site_types.specs.declared.forms.Form.{Form as Row}
 use Rattle.site_types.specs.declared.forms.FormName.{FormName}
 use Rattle.site_types.specs.declared.forms.FormName.TheVariants as form
-use Rattle.site_types.specs.declared.request.Request.{Request}
 use Rattle.site_types.proofs.FormLemmas.{is_table, ordered, fields_read, are_allowed, are_words, value_ordered, none_bad}
 use Rattle.site_types.proofs.OptionLemmas.{guarded, same_value}
 use Rattle.site_types.proofs.WordLemmas.{split_line}

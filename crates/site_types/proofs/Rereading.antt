@@ -1,26 +1,11 @@
 -- What the values of each form make is written as that form with these values. So a request that was read is read again from its line.
-use Rattle.std.proofs.Common.{◌≡◌, ℕ, List, [], ◌∷◌, Bool, true, false, nat_lt, Option, Some, None, option_map, unwrap_or, if◌then◌else◌, Result, Ok, Err, codes, refl, sym, ap, ◌∙◌}
-use Rattle.std.specs.Prelude.{IfOk}
-use Rattle.std.specs.Option.{option_and_then}
-use Rattle.std.specs.Fmt.{decimal}
-use Rattle.site_types.specs.CalendarTexts.{calendar_text}
-use Rattle.site_types.specs.Calendars.{calendar_of}
-use Rattle.site_types.specs.Forms.{Scheduling, are_marks, is_one, pair_of, policy_add_of, schedule_keys, schedule_made, schedule_of, schedule_texts, spelled, unit_add_of, unit_change_of}
-use Rattle.site_types.specs.Ids.{id_of, id_text}
-use Rattle.site_types.specs.Keys.{Given, name_of}
-use Rattle.site_types.specs.Lines.{IsFormed}
+use Rattle.site_types.proofs.Common.{◌≡◌, ℕ, List, [], ◌∷◌, Bool, true, false, nat_lt, Option, Some, None, option_map, unwrap_or, if◌then◌else◌, Result, Ok, Err, codes, refl, sym, ap, ◌∙◌, IfOk, option_and_then, decimal, calendar_text, calendar_of, Scheduling, are_marks, is_one, pair_of, policy_add_of, schedule_keys, schedule_made, schedule_of, schedule_texts, spelled, unit_add_of, unit_change_of, id_of, id_text, Given, name_of, IsFormed, number_between, path_of, written, windows_text, windows_of, rule_of, offset_of, offset_text, Request}
 use Rattle.site_types.specs.Requests.{IsReading, read_words}
-use Rattle.site_types.specs.Numbers.{number_between}
-use Rattle.site_types.specs.Paths.{path_of, written}
 use Rattle.site_types.specs.Values.{kind_of, kind_text, type_of, type_text, start_of, start_text, yes_or_no, yes_or_no_text}
-use Rattle.site_types.specs.WindowTexts.{windows_text}
-use Rattle.site_types.specs.WindowWords.{windows_of}
-use Rattle.site_types.specs.ZoneWords.{rule_of, offset_of, offset_text}
 use Rattle.site_types.specs.declared.calendar.CalendarItem.{CalendarItem}
 use Rattle.site_types.specs.declared.forms.FormName.{FormName}
 use Rattle.site_types.specs.declared.forms.FormName.TheVariants as form
 use Rattle.site_types.specs.declared.image.Kind.{Kind}
-use Rattle.site_types.specs.declared.request.Request.{Request}
 use Rattle.site_types.specs.declared.request.Request.TheVariants as request
 use Rattle.site_types.specs.declared.request.WordFault.{WordFault}
 use Rattle.site_types.specs.declared.schedule.PolicyType.{PolicyType}

@@ -1,10 +1,7 @@
 -- Windows of a weekday, a start and a length.
-use Rattle.std.proofs.Common.{◌≡◌, ◌<◌, ◌≤◌, ℕ, Bool, true, false, refl, ap, arith}
-use Rattle.std.specs.Prelude.{Some, None, Option, MatchOption, nat_lt, nat_le}
-use Rattle.std.proofs.lemmas.Bool.{leb-true, ltb-true}
-use Rattle.std.proofs.lemmas.Bool.Decides.{nat_tests}
+use Rattle.site_types.proofs.Common.{◌≡◌, ◌<◌, ◌≤◌, ℕ, Bool, true, false, refl, ap, arith, MatchOption, and_parts, leb-true, ltb-true, nat_tests, is_window, window_if, window_at}
+use Rattle.std.specs.Prelude.{Some, None, Option}
 use Rattle.std.proofs.Math.Bridge.{le_prop}
-use Rattle.site_types.specs.WindowWords.{window_if, window_at}
 use Rattle.site_types.specs.declared.window.Window.{Window}
 use mathlib.Core.HLevel.{is_prop→PathP}
 
@@ -24,16 +21,18 @@ same_window x y (p, q, r) = λ i. record {
 
 -- a window with these fields is the one of this weekday, start and length, and none is where there is none
 pub window_at-made : (weekday start length : ℕ) (o : Option Window) → IsMade weekday start length o → o ≡ window_at weekday start length
-window_at-made weekday start length o = at (nat_lt weekday 7) (nat_lt start 86_400) (nat_le 1 length) (nat_le length 604_800) refl refl refl refl o
+window_at-made weekday start length o = at (is_window weekday start length) refl o
   where
-    at : (a b c d : Bool) (p : nat_lt weekday 7 ≡ a) (q : nat_lt start 86_400 ≡ b) (r : nat_le 1 length ≡ c) (s : nat_le length 604_800 ≡ d) (o : Option Window) → IsMade weekday start length o → o ≡ window_if weekday start length a b c d p q r s
-    at false b c d p q r s None made = refl
-    at false b c d p q r s (Some w) made = let range = w.weekday_is in absurd (grind (arith, nat_tests))
-    at true false c d p q r s None made = refl
-    at true false c d p q r s (Some w) made = let range = w.start_is in absurd (grind (arith, nat_tests))
-    at true true false d p q r s None made = refl
-    at true true false d p q r s (Some w) made = let range = w.length_is in absurd (grind (arith, nat_tests))
-    at true true true false p q r s None made = refl
-    at true true true false p q r s (Some w) made = let range = w.at_most_a_week in absurd (grind (arith, nat_tests))
-    at true true true true p q r s None made = absurd (made (ltb-true weekday 7 p, ltb-true start 86_400 q, leb-true 1 length r, leb-true length 604_800 s))
-    at true true true true p q r s (Some w) made = ap (λ (x : Window). Some x) (same_window w _ made)
+    at : (b : Bool) (is : is_window weekday start length ≡ b) (o : Option Window) → IsMade weekday start length o → o ≡ window_if weekday start length b is
+    at false is None made = refl
+    at false is (Some w) made =
+        let weekday_in = w.weekday_is in
+        let start_in = w.start_is in
+        let some = w.length_is in
+        let at_most = w.at_most_a_week in
+        absurd (grind (arith, nat_tests))
+    at true is None made =
+        let within = (and_parts _ _ is).0 in
+        let times = (and_parts _ _ within).0 in
+        absurd (made (ltb-true weekday 7 (and_parts _ _ times).0, ltb-true start 86_400 (and_parts _ _ times).1, leb-true 1 length (and_parts _ _ within).1, leb-true length 604_800 (and_parts _ _ is).1))
+    at true is (Some w) made = ap (λ (x : Window). Some x) (same_window w _ made)

@@ -1,14 +1,6 @@
 -- Windows are written as they are read.
-use Rattle.std.proofs.Common.{◌≡◌, ℕ, List, [], ◌∷◌, length, take, drop, map, Bool, true, false, refl, sym, ◌∙◌, ap, arith}
-use Rattle.std.specs.Prelude.{Some, ◌==◌, nat_le, nat_lt, codes, ◌&&◌}
-use Rattle.std.specs.Fmt.{decimal}
-use Rattle.std.specs.List.{slice_index, slice_range, slice_split}
-use Rattle.std.proofs.lemmas.Bool.{and_parts, ltb-true, eqb-true}
-use Rattle.site_types.specs.Joined.{is_plus, joined_of}
-use Rattle.site_types.specs.Numbers.{number_up_to}
-use Rattle.site_types.specs.Weekdays.{weekday_named, weekday_name}
-use Rattle.site_types.specs.WindowTexts.{clock_text, window_text, windows_text}
-use Rattle.site_types.specs.WindowWords.{second_of, window_if, window_at, window_of, windows_of}
+use Rattle.site_types.proofs.Common.{◌≡◌, ℕ, List, [], ◌∷◌, length, take, drop, map, Bool, true, false, refl, sym, ◌∙◌, ap, arith, ◌==◌, decimal, slice_index, slice_range, slice_split, and_parts, ltb-true, eqb-true, is_plus, joined_of, number_up_to, weekday_named, weekday_name, clock_text, window_text, windows_text, second_of, is_window, window_if, window_at, window_of, windows_of}
+use Rattle.std.specs.Prelude.{Some, nat_lt, codes, ◌&&◌}
 use Rattle.site_types.specs.declared.window.Window.{Window}
 use Rattle.site_types.specs.declared.window.Windows.{Windows}
 use Rattle.site_types.specs.declared.window.Windows.TheVariants.{Always, Listed}
@@ -19,14 +11,11 @@ use Rattle.site_types.proofs.OptionLemmas.{guarded, chained, same_value, mapped}
 use Rattle.site_types.proofs.WordSpelling.{number_up_to_spelled, weekday_spelled, word_or}
 
 window_parts : (weekday start seconds : ℕ) (w : Window) → window_at weekday start seconds ≡ Some w → (w.weekday ≡ weekday) × (w.start ≡ start) × (w.length ≡ seconds)
-window_parts weekday start seconds w = at (nat_lt weekday 7) (nat_lt start 86_400) (nat_le 1 seconds) (nat_le seconds 604_800) refl refl refl refl
+window_parts weekday start seconds w = at (is_window weekday start seconds) refl
   where
-    at : (a b c d : Bool) (p : nat_lt weekday 7 ≡ a) (q : nat_lt start 86_400 ≡ b) (r : nat_le 1 seconds ≡ c) (s : nat_le seconds 604_800 ≡ d) → window_if weekday start seconds a b c d p q r s ≡ Some w → (w.weekday ≡ weekday) × (w.start ≡ start) × (w.length ≡ seconds)
-    at false b c d p q r s is = absurd (cc is)
-    at true false c d p q r s is = absurd (cc is)
-    at true true false d p q r s is = absurd (cc is)
-    at true true true false p q r s is = absurd (cc is)
-    at true true true true p q r s is = let same = sym (same_value _ w is) in (ap (λ (x : Window). x.weekday) same, ap (λ (x : Window). x.start) same, ap (λ (x : Window). x.length) same)
+    at : (b : Bool) (is : is_window weekday start seconds ≡ b) → window_if weekday start seconds b is ≡ Some w → (w.weekday ≡ weekday) × (w.start ≡ start) × (w.length ≡ seconds)
+    at false is made = absurd (cc made)
+    at true is made = let same = sym (same_value _ w made) in (ap (λ (x : Window). x.weekday) same, ap (λ (x : Window). x.start) same, ap (λ (x : Window). x.length) same)
 
 pub window_spelled : (t : List ℕ) (w : Window) → window_of t ≡ Some w → window_text w ≡ t
 window_spelled t w is =

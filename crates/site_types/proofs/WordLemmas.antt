@@ -1,14 +1,8 @@
 -- Words: a key, an equals sign and a value, and lines of words that are joined by spaces.
-use Rattle.std.proofs.Common.{◌≡◌, ℕ, ◌+◌, zero, suc, List, [], ◌∷◌, ◌++◌, length, take, drop, Some, None, is_some, nat_lt, append_assoc, length-append, Bool, true, false, not, cond, ◌&&◌, refl, ap, ◌∙◌, arith}
-use Rattle.std.specs.List.{All, list_all, position_or_len, join_with_byte, slice_split}
-use Rattle.std.proofs.lemmas.Bool.{and_parts, and_from, cond-true}
-use Rattle.std.proofs.lemmas.Bool.Decides.{nat_tests}
+use Rattle.site_types.proofs.Common.{◌≡◌, ℕ, ◌+◌, zero, suc, List, [], ◌∷◌, ◌++◌, length, take, drop, Some, None, is_some, nat_lt, append_assoc, length-append, Bool, true, false, not, cond, ◌&&◌, refl, ap, ◌∙◌, arith, All, list_all, position_or_len, join_with_byte, slice_split, and_parts, and_from, cond-true, nat_tests, list_all-append, is_word_byte, is_word, is_equals, has_equals, key_of, value_of, word_with, is_space}
 use Rattle.std.proofs.lemmas.List.Elements.{All-nil, All-cons}
-use Rattle.std.proofs.lemmas.List.Folds.{list_all-append}
 use Rattle.std.proofs.lemmas.List.Splits.{slice_split_none, slice_split_at}
 use Rattle.std.proofs.Math.Seq.{take-append_seam, drop-append-add}
-use Rattle.site_types.specs.Keys.{is_word_byte, is_word, is_equals, has_equals, key_of, value_of}
-use Rattle.site_types.specs.Lines.{word_with, is_space}
 
 -- a printed character other than the equals sign
 abbrev pub is_key_byte : ℕ → Bool

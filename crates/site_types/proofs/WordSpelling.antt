@@ -1,19 +1,8 @@
 -- Words, numbers and paths are written as they are read.
-use Rattle.std.proofs.Common.{◌≡◌, ℕ, List, Bool, true, false, refl, sym, ◌∙◌, ap}
-use Rattle.std.specs.Prelude.{Some, None, Option, codes, is_some, if◌then◌else◌, ◌&&◌, nat_le, length}
-use Rattle.std.specs.Fmt.{decimal}
-use Rattle.std.specs.Str.{bytes_eq}
-use Rattle.std.specs.Str.Parse.{digits_value}
-use Rattle.std.proofs.lemmas.Bool.{and_parts}
-use Rattle.std.proofs.lemmas.Slice.Eq.{bytes_eq-Decides}
+use Rattle.site_types.proofs.Common.{◌≡◌, ℕ, List, Bool, true, false, refl, sym, ◌∙◌, ap, nat_le, decimal, bytes_eq, digits_value, and_parts, bytes_eq-Decides, name_of, is_name, number_up_to, at_least, number_between, is_path, written, unwritten, path_of, weekday_named, weekday_name, rule_of}
+use Rattle.std.specs.Prelude.{Some, None, Option, codes, is_some, if◌then◌else◌, ◌&&◌, length}
 use Rattle.jiff_tz.specs.PosixReader.{read_whole}
-use Rattle.site_types.specs.Keys.{name_of}
-use Rattle.site_types.specs.Names.{is_name}
-use Rattle.site_types.specs.Numbers.{number_up_to, at_least, number_between}
-use Rattle.site_types.specs.Paths.{is_path, written, unwritten, path_of}
 use Rattle.site_types.specs.Values.{kind_text, kind_of, type_text, type_of, yes_or_no_text, yes_or_no, start_text, start_of}
-use Rattle.site_types.specs.Weekdays.{weekday_named, weekday_name}
-use Rattle.site_types.specs.ZoneWords.{rule_of}
 use Rattle.site_types.specs.declared.image.Kind.{Kind}
 use Rattle.site_types.specs.declared.image.Kind.TheVariants.{Full, Differential, Cumulative}
 use Rattle.site_types.specs.declared.schedule.PolicyType.{PolicyType}

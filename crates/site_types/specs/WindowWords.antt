@@ -3,7 +3,7 @@ use Rattle.std.specs.Prelude.{◌≡◌, refl, ℕ, ◌+◌, ◌*◌, Bool, true
 use Rattle.std.specs.List.{slice_index, slice_range}
 use Rattle.std.specs.Option.{option_and_then}
 use Rattle.std.specs.Str.{bytes_eq}
-use Rattle.std.proofs.lemmas.Bool.{leb-true, ltb-true}
+use Rattle.std.proofs.lemmas.Bool.{and_parts, leb-true, ltb-true}
 use Rattle.site_types.specs.Digits.{digits_of}
 use Rattle.site_types.specs.Joined.{joined_of}
 use Rattle.site_types.specs.Numbers.{number_up_to}
@@ -20,17 +20,21 @@ second_at hour minute second = if nat_lt hour 24 && nat_lt minute 60 && nat_lt s
 abbrev pub second_of : List ℕ → Option ℕ
 second_of text = if length text == 8 && slice_index text 2 == 58 && slice_index text 5 == 58 then option_and_then (λ hour. option_and_then (λ minute. option_and_then (λ second. second_at hour minute second) (digits_of 2 (drop 6 text))) (digits_of 2 (slice_range text 3 5))) (digits_of 2 (take 2 text)) else None
 
--- the window of this weekday, start and length, by the answers to whether each is in its range
-abbrev pub window_if : (weekday start length : ℕ) → (a b c d : Bool) → nat_lt weekday 7 ≡ a → nat_lt start 86_400 ≡ b → nat_le 1 length ≡ c → nat_le length 604_800 ≡ d → Option Window
-window_if weekday start length false b c d p q r s = None
-window_if weekday start length true false c d p q r s = None
-window_if weekday start length true true false d p q r s = None
-window_if weekday start length true true true false p q r s = None
-window_if weekday start length true true true true p q r s = Some (record { weekday = weekday; start = start; length = length; weekday_is = ltb-true weekday 7 p; start_is = ltb-true start 86_400 q; length_is = leb-true 1 length r; at_most_a_week = leb-true length 604_800 s })
+-- a weekday, the second of a day, and a length of a second to a week
+abbrev pub is_window : (weekday start length : ℕ) → Bool
+is_window weekday start length = nat_lt weekday 7 && nat_lt start 86_400 && nat_le 1 length && nat_le length 604_800
+
+-- the window of this weekday, start and length, by the answer to whether it is one
+abbrev pub window_if : (weekday start length : ℕ) → (b : Bool) → is_window weekday start length ≡ b → Option Window
+window_if weekday start length false is = None
+window_if weekday start length true is =
+    let within = (and_parts _ _ is).0 in
+    let times = (and_parts _ _ within).0 in
+    Some (record { weekday = weekday; start = start; length = length; weekday_is = ltb-true weekday 7 (and_parts _ _ times).0; start_is = ltb-true start 86_400 (and_parts _ _ times).1; length_is = leb-true 1 length (and_parts _ _ within).1; at_most_a_week = leb-true length 604_800 (and_parts _ _ is).1 })
 
 -- the window of this weekday, start and length, where there is one
 abbrev pub window_at : ℕ → ℕ → ℕ → Option Window
-window_at weekday start length = window_if weekday start length (nat_lt weekday 7) (nat_lt start 86_400) (nat_le 1 length) (nat_le length 604_800) refl refl refl refl
+window_at weekday start length = window_if weekday start length (is_window weekday start length) refl
 
 -- the window that a text spells: the weekday, the time at which it opens and the seconds of its length, joined by slashes
 abbrev pub window_of : List ℕ → Option Window

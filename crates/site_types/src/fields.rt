@@ -2,12 +2,47 @@
 ghost use Rattle.std.specs.Prelude.{◌≡◌};
 ghost use Rattle.std.specs.Int.{w16, w32, w64};
 ghost use Rattle.site_types.specs.Fields.{byte_field, number_field, bytes_field, IsTaken, borrowed};
+ghost use Rattle.site_types.specs.declared.fields.FieldFault.TheVariants as fault;
 
+use crate::NoMemory;
+use std::alloc::AllocFailed;
 use std::marker::Model;
 
 /// The bytes end within a field.
 #[derive(Clone, Copy, Debug)]
 pub struct Ended;
+
+/// Why a field wasn't read.
+#[derive(Clone, Copy, Debug)]
+pub enum FieldFault {
+    /// It breaks its rule. So many bytes are left from where it begins, and none where the bytes end within it.
+    Broken(usize),
+    NoMemory,
+}
+
+impl From<NoMemory> for FieldFault {
+    ghost from_gives = { λ _ e. e ≡ fault.NoMemory };
+
+    fn from(_: NoMemory) -> FieldFault {
+        FieldFault::NoMemory
+    }
+}
+
+impl<T: Drop> From<AllocFailed<T>> for FieldFault {
+    ghost from_gives = { λ _ e. e ≡ fault.NoMemory };
+
+    fn from(_: AllocFailed<T>) -> FieldFault {
+        FieldFault::NoMemory
+    }
+}
+
+impl From<Ended> for FieldFault {
+    ghost from_gives = { λ _ e. e ≡ fault.Broken 0 };
+
+    fn from(_: Ended) -> FieldFault {
+        FieldFault::Broken(0)
+    }
+}
 
 /// Bytes of which some are still to be read, field by field. Numbers are big-endian.
 #[derive(Drop)]

@@ -10,10 +10,10 @@ ghost use Rattle.site_types.specs.LineTexts.{field_text};
 ghost use Rattle.site_types.specs.WindowTexts.{windows_text};
 ghost use Rattle.site_types.specs.ZoneWords.{offset_text};
 
-use crate::joined_text::push_joined;
-use crate::offset_text::push_offset;
-use crate::window_text::push_windows;
+use crate::joined::push_joined;
+use crate::window_word::push_windows;
 use crate::wording::push_number;
+use crate::zone_word::push_offset;
 use crate::{CalendarItem, Form, ListOf, Name, NoMemory, Windows};
 use std::alloc::Global;
 

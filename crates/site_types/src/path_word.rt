@@ -1,9 +1,8 @@
-// Reading paths.
-ghost use Rattle.std.specs.Prelude.{◌≡◌, ◌<◌, ◌∷◌, length, IfOk, MatchOption, []};
+// Paths, as they stand in a word.
+ghost use Rattle.std.specs.Prelude.{◌≡◌, ◌<◌, ◌∷◌, ◌++◌, length, IfOk, OnOk, MatchOption, []};
 ghost use Rattle.std.specs.List.{list_all};
-ghost use Rattle.site_types.specs.Paths.{is_path_byte, is_path, hex_value, byte_of, unwritten, path_of};
+ghost use Rattle.site_types.specs.Paths.{is_path_byte, is_path, hex_digit, hex_value, is_escaped, byte_of, unwritten, path_of, written_byte, written};
 
-use crate::paths::written_path;
 use crate::{NoMemory, Text};
 use std::alloc::Global;
 
@@ -71,4 +70,47 @@ fn unwritten(alloc: Global, text: &[u8]) -> Result<Text, NoMemory>
         rest = behind;
     }
     Ok(Text::from_vec(path))
+}
+
+fn hex_digit(digit: u8) -> u8
+    requires { digit < 16 }
+    ensures { result ≡ hex_digit digit }
+{
+    if digit < 10 {
+        b'0' + digit
+    } else {
+        b'A' - 10 + digit
+    }
+}
+
+// A byte that is no printed character of ASCII, or a percent sign.
+fn is_escaped(byte: u8) -> bool
+    ensures { result ≡ is_escaped byte }
+{
+    byte <= b' ' || byte == b'%' || byte >= 0x7F
+}
+
+fn push_written(word: &mut Vec<u8>, byte: u8) -> Result<(), NoMemory>
+    ensures { OnOk result (word.new.items ≡ word.old.items ++ written_byte byte) }
+{
+    if is_escaped(byte) {
+        word.push(b'%')?;
+        word.push(hex_digit(byte / 16))?;
+        word.push(hex_digit(byte % 16))?;
+    } else {
+        word.push(byte)?;
+    }
+    Ok(())
+}
+
+/// A path as it is written in a word: a percent sign and two digits stand for a byte that is no printed character of ASCII,
+/// and for a percent sign.
+pub fn written_path(alloc: Global, path: &Text) -> Result<Text, NoMemory>
+    ensures { IfOk result (λ word. word ≡ written path.now) }
+{
+    let mut word = Vec::new(alloc);
+    for byte in path.bytes() {
+        push_written(&mut word, *byte)?;
+    }
+    Ok(Text::from_vec(word))
 }

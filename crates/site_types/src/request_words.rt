@@ -17,7 +17,7 @@ use crate::forms::{
     SEGMENT, SLOTS, START, TYPE, UNIT_ADD, UNIT_CHANGE, WINDOWS, ZONE_SET,
 };
 use crate::line::Line;
-use crate::value_text::{kind_text, start_text, type_text, yes_or_no_text};
+use crate::value_words::{kind_text, start_text, type_text, yes_or_no_text};
 use crate::{
     CalendarItem, Kind, ListOf, Name, NoMemory, PolicyType, Request, Text, Windows, written_path,
 };

@@ -1,10 +1,12 @@
-// Reading windows.
-ghost use Rattle.std.specs.Prelude.{◌≡◌, IfOk};
+// Windows, as they stand in a word.
+ghost use Rattle.std.specs.Prelude.{◌≡◌, ◌<◌, ◌++◌, IfOk, OnOk};
+ghost use Rattle.site_types.specs.WindowTexts.{clock_text, windows_text};
 ghost use Rattle.site_types.specs.WindowWords.{second_at, second_of, window_at, windows_of};
 
-use crate::digits::read_digits;
-use crate::joined_word::{JoinedItem, read_joined};
-use crate::weekday::read_weekday;
+use crate::digits::{push_two_digits, read_digits};
+use crate::joined::{JoinedItem, Written, push_joined, read_joined};
+use crate::weekday::{read_weekday, weekday_name};
+use crate::wording::push_number;
 use crate::{ListOf, NoMemory, Window, Windows, read_number};
 use std::alloc::Global;
 
@@ -69,4 +71,38 @@ fn second_at(hour: u16, minute: u16, second: u16) -> Option<u32>
         return Some(u32::from(hour) * 3600 + u32::from(minute) * 60 + u32::from(second));
     }
     None
+}
+
+fn push_clock(text: &mut Vec<u8>, second: u32) -> Result<(), NoMemory>
+    ensures { OnOk result (text.new.items ≡ text.old.items ++ clock_text second) }
+{
+    push_two_digits(text, second / 3600)?;
+    text.push(b':')?;
+    push_two_digits(text, second % 3600 / 60)?;
+    text.push(b':')?;
+    push_two_digits(text, second % 60)
+}
+
+impl Written for Window {
+    ghost use Rattle.site_types.specs.WindowTexts.{window_text};
+
+    ghost written = { window_text };
+
+    fn push_to(&self, text: &mut Vec<u8>) -> Result<(), NoMemory> {
+        text.extend_from_slice(weekday_name(self.weekday()))?;
+        text.push(b'/')?;
+        push_clock(text, self.start())?;
+        text.push(b'/')?;
+        push_number(text, u64::from(self.length()))
+    }
+}
+
+pub fn push_windows(text: &mut Vec<u8>, windows: &Windows) -> Result<(), NoMemory>
+    ensures { OnOk result (text.new.items ≡ text.old.items ++ windows_text windows.now) }
+{
+    match windows {
+        Windows::Always => text.extend_from_slice(b"always"),
+        Windows::Listed(listed) if listed.as_slice().is_empty() => text.extend_from_slice(b"none"),
+        Windows::Listed(listed) => push_joined(text, listed.as_slice()),
+    }
 }

@@ -1,8 +1,8 @@
-// Reading zones.
-ghost use Rattle.std.specs.Prelude.{◌≡◌, ◌<◌, IfOk, IfSome, is_some};
-ghost use Rattle.site_types.specs.ZoneWords.{seconds_of, signed, offset_of, rule_of};
+// Zones, as they stand in a word.
+ghost use Rattle.std.specs.Prelude.{◌≡◌, ◌<◌, ◌++◌, IfOk, IfSome, OnOk, is_some};
+ghost use Rattle.site_types.specs.ZoneWords.{seconds_of, sign_of, signed, offset_of, offset_text, rule_of};
 
-use crate::digits::read_digits;
+use crate::digits::{push_two_digits, read_digits};
 use crate::{NoMemory, Text};
 use jiff_tz::posix;
 use std::alloc::Global;
@@ -56,4 +56,20 @@ pub fn is_rule(text: &[u8]) -> bool
     ensures { result ≡ is_some (rule_of text.now) }
 {
     text.len() <= LONGEST_RULE && posix::TimeZone::parse(text).is_ok()
+}
+
+fn sign_of(offset: i32) -> u8
+    ensures { result ≡ sign_of offset }
+{
+    if offset < 0 { b'-' } else { b'+' }
+}
+
+pub fn push_offset(text: &mut Vec<u8>, offset: i32) -> Result<(), NoMemory>
+    ensures { OnOk result (text.new.items ≡ text.old.items ++ offset_text offset) }
+{
+    let seconds = offset.unsigned_abs();
+    text.push(sign_of(offset))?;
+    push_two_digits(text, seconds / 3600)?;
+    text.push(b':')?;
+    push_two_digits(text, seconds % 3600 / 60)
 }

@@ -1,20 +1,10 @@
 -- Going through the operations of images one by one, and their order.
-use Rattle.std.proofs.Common.{◌≡◌, ◌<◌, ◌+◌, ◌-◌, ℕ, suc, List, [], ◌∷◌, ◌++◌, map, length, append_assoc, Bool, true, false, cond, refl, sym, ◌∙◌, ap, arith}
-use Rattle.std.specs.Prelude.{filter, sum_by, IsPermutation}
-use Rattle.std.specs.List.{range_with_len}
+use Rattle.slp_tree.proofs.Common.{◌≡◌, ◌<◌, ◌+◌, ◌-◌, ℕ, suc, List, [], ◌∷◌, ◌++◌, map, length, append_assoc, Bool, true, false, cond, refl, sym, ◌∙◌, ap, arith, filter, sum_by, IsPermutation, range_with_len, IsSortedBy, nat_cmp, ordering_then, is_lt, Ordering, Less, Equal, Greater, nat_cmp_total, nat_list_cmp_total, then_total, on_total, back_total, exact_unsigned, exact_bytes, Version, is_due, ranked, due_order}
 use Rattle.std.specs.Cmp.{IsTotalOrder}
 use Rattle.std.specs.Cmp.Lexicographic.{slice_cmp}
-use Rattle.std.specs.List.Sorted.{IsSortedBy}
-use Rattle.std.specs.Ordering.{nat_cmp, ordering_then, is_lt}
-use Rattle.std.specs.declared.cmp.Ordering.{Ordering}
-use Rattle.std.specs.declared.cmp.Ordering.TheVariants.{Less, Equal, Greater}
-use Rattle.std.proofs.lemmas.Cmp.{nat_cmp_total, nat_list_cmp_total, then_total, on_total, back_total}
-use Rattle.std.proofs.lemmas.Map.Lookups.{exact_unsigned, exact_bytes}
 use Rattle.site_types.specs.declared.image.ImageRecord.{ImageRecord}
 use Rattle.slp_tree.specs.declared.due.Ranked.{Ranked}
-use Rattle.slp_tree.specs.Trees.{Version}
 use Rattle.slp_tree.specs.Sorting.{in_order}
-use Rattle.slp_tree.specs.Due.{is_due, ranked, due_order}
 use Rattle.slp_tree.proofs.SortingLemmas.{sorted_is}
 
 -- The order is total, and tells all due operations apart.

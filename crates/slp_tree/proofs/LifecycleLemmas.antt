@@ -1,13 +1,6 @@
 -- Lifecycles by name, to which a version is added.
-use Rattle.std.proofs.Common.{◌≡◌, ◌≢◌, ◌+◌, ◌-◌, ℕ, zero, suc, List, [], ◌∷◌, ◌++◌, length, get_or, set, Bool, true, false, cond, Option, Some, None, Result, Ok, Err, refl, sym, ◌∙◌, ap, subst, arith}
-use Rattle.std.specs.Prelude.{IfOk, OnOk, OnErr, insert, slice_get, unwrap_or, nat_eq}
-use Rattle.std.specs.Option.{option_map}
-use Rattle.std.specs.Str.{bytes_eq}
+use Rattle.slp_tree.proofs.Common.{◌≡◌, ◌≢◌, ◌+◌, ◌-◌, ℕ, zero, suc, List, [], ◌∷◌, ◌++◌, length, get_or, set, Bool, true, false, cond, Option, Some, None, Result, Ok, Err, refl, sym, ◌∙◌, ap, subst, arith, IfOk, OnOk, OnErr, insert, slice_get, unwrap_or, nat_eq, bytes_eq, exact_bytes, bytes_eq-Decides, Version, option_map, AreByName}
 use Rattle.std.proofs.lemmas.List.{set-get_or, length_push}
-use Rattle.std.proofs.lemmas.Map.Lookups.{exact_bytes}
-use Rattle.std.proofs.lemmas.Slice.Eq.{bytes_eq-Decides}
-use Rattle.slp_tree.specs.Trees.{Version}
-use Rattle.slp_tree.specs.Lists.{AreByName}
 use Rattle.slp_tree.specs.Lifecycles.{Lifecycle, IsAdded, lifecycle_name, lifecycle_named, version_in, version_named, latest_named, with_further, add_version}
 use Rattle.slp_tree.specs.Places.{StandsAt, LacksAt}
 use Rattle.slp_tree.proofs.ListLemmas.{named_at, unnamed_at, named-put, put_found, put_lacking}

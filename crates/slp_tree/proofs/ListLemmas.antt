@@ -1,20 +1,9 @@
 -- Lists by name.
-use Rattle.std.proofs.Common.{◌≡◌, ◌<◌, ◌+◌, ℕ, zero, suc, List, [], ◌∷◌, length, get_or, set, Bool, true, false, cond, Option, Some, None, Result, Ok, Err, refl, sym, ◌∙◌, ap, subst, arith}
-use Rattle.std.specs.Prelude.{IfOk, insert, not, is_some, if◌then◌else◌}
-use Rattle.std.specs.List.{HoldsAt, remove}
-use Rattle.std.specs.Str.{bytes_eq}
+use Rattle.slp_tree.proofs.Common.{◌≡◌, ◌<◌, ◌+◌, ℕ, zero, suc, List, [], ◌∷◌, length, get_or, set, Bool, true, false, cond, Option, Some, None, Result, Ok, Err, refl, sym, ◌∙◌, ap, subst, arith, IfOk, insert, is_some, if◌then◌else◌, HoldsAt, remove, bytes_eq, match_ordering, nat_cmp, is_eq, is_lt, ordering_index, ordering_reverse, IsNonDecreasingBy, IsBinarySearchResult, IsSearchInRange, Ordering, Less, Equal, Greater, nat_list_cmp_total, exact_bytes, bytes_eq-Decides, searchable_from_sorted, named, has, put, without, changed, AreByName}
+use Rattle.std.specs.Prelude.{not}
 use Rattle.std.specs.Cmp.Lexicographic.{slice_cmp}
-use Rattle.std.specs.Ordering.{match_ordering, nat_cmp, is_eq, is_lt, ordering_index, ordering_reverse}
-use Rattle.std.specs.List.Sorted.{IsNonDecreasingBy, IsBinarySearchResult, IsSearchInRange}
-use Rattle.std.proofs.lemmas.List.Sorted.{searchable_from_sorted}
 use Rattle.std.proofs.lemmas.List.Kept.{AllPairs-filter}
-use Rattle.std.specs.declared.cmp.Ordering.{Ordering}
-use Rattle.std.specs.declared.cmp.Ordering.TheVariants.{Less, Equal, Greater}
-use Rattle.std.proofs.lemmas.Cmp.{nat_list_cmp_total}
-use Rattle.std.proofs.lemmas.Map.Lookups.{exact_bytes}
 use Rattle.std.proofs.lemmas.Map.Text.{is_eq-slice_cmp}
-use Rattle.std.proofs.lemmas.Slice.Eq.{bytes_eq-Decides}
-use Rattle.slp_tree.specs.Lists.{named, has, put, without, changed, AreByName}
 use Rattle.slp_tree.specs.Places.{StandsAt, LacksAt, IsPlace}
 
 abbrev compare : List ℕ → List ℕ → Ordering

@@ -1,13 +1,6 @@
 -- A list has one order by a total order under which nothing ties with another value.
-use Rattle.std.proofs.Common.{◌≡◌, ◌+◌, ◌<◌, ℕ, suc, List, [], ◌∷◌, length, get_or, Bool, true, false, cond, refl, sym, ◌∙◌, ap, subst, arith}
-use Rattle.std.specs.Prelude.{sum_by, if◌then◌else◌, IsPermutation}
+use Rattle.slp_tree.proofs.Common.{◌≡◌, ◌+◌, ◌<◌, ℕ, suc, List, [], ◌∷◌, length, get_or, Bool, true, false, cond, refl, sym, ◌∙◌, ap, subst, arith, sum_by, if◌then◌else◌, IsPermutation, IsSortedBy, is_gt, is_lt, ordering_reverse, Ordering, Less, Equal, Greater, tied_itself, upto, sum_by-IsPermutation, sorted_far, ranks_by}
 use Rattle.std.specs.Cmp.{IsTotalOrder}
-use Rattle.std.specs.List.Sorted.{IsSortedBy}
-use Rattle.std.specs.Ordering.{is_gt, is_lt, ordering_reverse}
-use Rattle.std.specs.declared.cmp.Ordering.{Ordering}
-use Rattle.std.specs.declared.cmp.Ordering.TheVariants.{Less, Equal, Greater}
-use Rattle.std.proofs.lemmas.Cmp.{tied_itself, upto}
-use Rattle.std.proofs.lemmas.List.Sorted.{sum_by-IsPermutation, sorted_far, ranks_by}
 use Rattle.std.proofs.lemmas.List.Sums.{sum_by-cons}
 use Rattle.slp_tree.specs.Sorting.{put_in_order, in_order}
 

@@ -1,13 +1,7 @@
 -- Valid trees.
-use Rattle.std.proofs.Common.{◌≡◌, ℕ, List, [], ◌∷◌, ◌++◌, map, append_assoc, Bool, true, false, not, Option, None, refl, sym, ap, subst}
-use Rattle.std.specs.Prelude.{find, is_none}
-use Rattle.std.specs.List.{list_any}
-use Rattle.std.specs.Option.{option_map}
-use Rattle.std.specs.Str.{bytes_eq}
-use Rattle.std.proofs.lemmas.Slice.Eq.{bytes_eq-Decides}
+use Rattle.slp_tree.proofs.Common.{◌≡◌, ℕ, List, [], ◌∷◌, ◌++◌, map, append_assoc, Bool, true, false, not, Option, None, refl, sym, ap, subst, find, is_none, list_any, bytes_eq, bytes_eq-Decides, is_without_operations, begins_with_duplication, has_late_source, has_childless_after_copy, has_over_ten_operations, has_unknown_unit, has_later_backup, broken_rule, is_tree, option_map}
 use Rattle.std.proofs.lemmas.Bool.{or_from, or_left, or_right}
 use Rattle.site_types.specs.declared.lifecycle.Operation.{Operation}
-use Rattle.slp_tree.specs.Trees.{is_without_operations, begins_with_duplication, has_late_source, has_childless_after_copy, has_over_ten_operations, has_unknown_unit, has_later_backup, broken_rule, is_tree}
 
 -- the units that the operations name themselves are known
 is_named : List ℕ → List Operation → Bool

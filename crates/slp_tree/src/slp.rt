@@ -57,6 +57,7 @@ impl Slp {
     /// 7. no later operation is a backup.
     ///
     /// It takes no memory, so `NoMemory` is never answered.
+    #[tactic(auto, using(crate::proofs::TreeLemmas::tree_of))]
     pub fn new(
         _alloc: Global,
         priority: u32,

@@ -1,6 +1,5 @@
-use Rattle.std.proofs.Common.{◌≡◌, true, false, ap}
-use Rattle.std.specs.Prelude.{is_none, None, codes}
-use Rattle.std.proofs.lemmas.Bool.{false≢true}
+use Rattle.desk_model.proofs.Common.{◌≡◌, true, false, ap, is_none, None, false≢true}
+use Rattle.std.specs.Prelude.{codes}
 use Rattle.std.proofs.lemmas.Option.{MatchOption-at_none}
 use Rattle.jiff_tz.specs.PosixReader.{read_whole, read_tz, read_abbreviation, read_unquoted, read_offset, read_up_to_two, read_digit, read_sign, read_minutes}
 use Rattle.desk_model.proofs.site.first_zone.Goals as goal

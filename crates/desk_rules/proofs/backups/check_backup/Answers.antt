@@ -1,6 +1,4 @@
-use Rattle.desk_rules.proofs.Common.{rules, unwrap_or, adhoc, client_refusals, policy_asked, entries}
-use Rattle.desk_rules.specs.Asking.{asked_by}
-use Rattle.desk_rules.specs.Seen.{room_under, seen}
+use Rattle.desk_rules.proofs.Common.{rules, unwrap_or, adhoc, client_refusals, policy_asked, entries, asked_by, room_under, seen}
 use Rattle.desk_rules.proofs.RefusalLemmas.{both_pass, passes_after, passes_as, passes_before}
 use Rattle.desk_rules.proofs.SeenLemmas.{backup_seen}
 use Rattle.desk_rules.proofs.backups.check_backup.Goals as goal

@@ -1,7 +1,4 @@
-use Rattle.desk_rules.proofs.Common.{backup_refusals, SealNow}
-use Rattle.desk_rules.specs.Asking.{asked_by}
-use Rattle.desk_rules.specs.Decisions.{backup_body}
-use Rattle.desk_rules.specs.Seen.{backup_answer, seen}
+use Rattle.desk_rules.proofs.Common.{backup_refusals, SealNow, asked_by, backup_body, backup_answer, seen}
 use Rattle.desk_rules.proofs.RefusalLemmas.{refused_settles}
 use Rattle.desk_rules.proofs.SeenLemmas.{made_settles}
 use Rattle.desk_rules.proofs.backups.decide_backup.Goals as goal

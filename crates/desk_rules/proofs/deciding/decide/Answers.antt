@@ -1,5 +1,4 @@
-use Rattle.desk_rules.proofs.Common.{sym, ◌∙◌, ap, refl, class_seen}
-use Rattle.desk_rules.specs.Asking.{asked_by}
+use Rattle.desk_rules.proofs.Common.{sym, ◌∙◌, ap, refl, class_seen, asked_by}
 use Rattle.desk_rules.proofs.DecisionLemmas.{backup_decided, file_decided, restore_decided, setting_decided}
 use Rattle.desk_rules.proofs.deciding.decide.Goals as goal
 

@@ -1,5 +1,4 @@
-use Rattle.desk_rules.proofs.Common.{[], ◌++◌, ◌∙◌, ap, List, if◌then◌else◌, Policy, ImageRecord}
-use Rattle.desk_rules.specs.DueBackups.{due_of_policy}
+use Rattle.desk_rules.proofs.Common.{[], ◌++◌, ◌∙◌, ap, List, if◌then◌else◌, Policy, ImageRecord, due_of_policy}
 use Rattle.desk_rules.proofs.ForemostLemmas.{one_added}
 use Rattle.desk_rules.proofs.due_list.due_backups.Goals as goal
 

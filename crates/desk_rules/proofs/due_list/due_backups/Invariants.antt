@@ -1,5 +1,4 @@
-use Rattle.std.proofs.Common.{◌≡◌, take, filter, flat_map}
-use Rattle.desk_rules.specs.DueBackups.{due_of_policy}
+use Rattle.desk_rules.proofs.Common.{◌≡◌, take, filter, flat_map, due_of_policy}
 use Rattle.desk_rules.proofs.due_list.due_backups.Given as goal
 
 abbrev pub invariant-loop-policy : goal.invariant-loop-policy

@@ -1,5 +1,4 @@
-use Rattle.desk_rules.proofs.Common.{◌≡◌, ◌<◌, ◌∙◌, sym, ap, List, length, map, get_or, Bor, get_or-map, length-map, Schedule}
-use Rattle.desk_rules.specs.DueBackups.{is_due_for}
+use Rattle.desk_rules.proofs.Common.{◌≡◌, ◌<◌, ◌∙◌, sym, ap, List, length, map, get_or, Bor, get_or-map, length-map, Schedule, is_due_for}
 use Rattle.desk_rules.proofs.ForemostLemmas.{foremost_passed}
 use Rattle.desk_rules.proofs.due_list.foremost_due.Goals.{then-branch, else-branch}
 use Rattle.desk_rules.proofs.ForemostLemmas as lemmas

@@ -1,5 +1,4 @@
-use Rattle.std.proofs.Common.{◌≡◌, map, take, filter, option_map}
-use Rattle.desk_rules.specs.DueBackups.{is_due_for, foremost}
+use Rattle.desk_rules.proofs.Common.{◌≡◌, map, take, filter, option_map, is_due_for, foremost}
 use Rattle.desk_rules.proofs.due_list.foremost_due.Given as goal
 
 abbrev pub invariant-loop-schedule : goal.invariant-loop-schedule

@@ -1,5 +1,4 @@
-use Rattle.std.proofs.Common.{◌≡◌, map, take, filter}
-use Rattle.desk_rules.specs.DueBackups.{may_be_due}
+use Rattle.desk_rules.proofs.Common.{◌≡◌, map, take, filter, may_be_due}
 use Rattle.desk_rules.proofs.due_list.may_be_due.Given as goal
 
 abbrev pub invariant-loop-schedule : goal.invariant-loop-schedule

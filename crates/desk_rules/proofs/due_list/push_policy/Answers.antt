@@ -1,7 +1,6 @@
-use Rattle.desk_rules.proofs.Common.{◌≡◌, ◌++◌, ◌∙◌, ap, arith, List, map, Bor, Schedule}
+use Rattle.desk_rules.proofs.Common.{◌≡◌, ◌++◌, ◌∙◌, ap, arith, List, map, Bor, Schedule, due_of_client}
 use Rattle.std.proofs.lemmas.Grind.{common_steps}
 use Rattle.site_types.specs.declared.due.DueBackup.{DueBackup}
-use Rattle.desk_rules.specs.DueBackups.{due_of_client}
 use Rattle.desk_rules.proofs.DueLemmas.{line_of_possible}
 use Rattle.desk_rules.proofs.due_list.push_policy.Goals as goal
 

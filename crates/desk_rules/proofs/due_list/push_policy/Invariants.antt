@@ -1,5 +1,4 @@
-use Rattle.std.proofs.Common.{◌≡◌, ◌++◌, take, flat_map}
-use Rattle.desk_rules.specs.DueBackups.{due_of_client}
+use Rattle.desk_rules.proofs.Common.{◌≡◌, ◌++◌, take, flat_map, due_of_client}
 use Rattle.desk_rules.proofs.due_list.push_policy.Given as goal
 
 abbrev pub invariant-loop-client : goal.invariant-loop-client

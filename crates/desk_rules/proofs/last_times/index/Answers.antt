@@ -1,5 +1,4 @@
-use Rattle.desk_rules.proofs.Common.{◌≡◌, ◌+◌, ◌∷◌, [], ◌++◌, ◌∙◌, ap, sym, take, max, List, Option, ℕ, option_map_or, take_more, ImageRecord}
-use Rattle.desk_rules.specs.DueBackups.{last_time}
+use Rattle.desk_rules.proofs.Common.{◌≡◌, ◌+◌, ◌∷◌, [], ◌++◌, ◌∙◌, ap, sym, take, max, List, Option, ℕ, option_map_or, take_more, ImageRecord, last_time}
 use Rattle.desk_rules.specs.declared.last_times.Key.{Key}
 use Rattle.desk_rules.proofs.LastTimeLemmas.{last_time_one_more}
 use Rattle.desk_rules.proofs.last_times.index.Goals as goal

@@ -1,4 +1,4 @@
-use Rattle.std.proofs.Common.{take}
+use Rattle.desk_rules.proofs.Common.{take}
 use Rattle.desk_rules.specs.LastTimes.{IsIndex}
 use Rattle.desk_rules.proofs.last_times.index.Given as goal
 

@@ -1,4 +1,4 @@
-use Rattle.std.proofs.Common.{◌∙◌, Some, ap, sym}
+use Rattle.desk_rules.proofs.Common.{◌∙◌, Some, ap, sym}
 use Rattle.desk_rules.specs.Removals.{removal_seen}
 use Rattle.desk_rules.specs.declared.settings.Removal.{Removal}
 use Rattle.desk_rules.proofs.RefusalLemmas.{passes_as}

@@ -1,6 +1,4 @@
-use Rattle.desk_rules.proofs.Common.{[], Done, first_refusal, setting_refusals}
-use Rattle.desk_rules.specs.Decisions.{SetsSite}
-use Rattle.desk_rules.specs.Seen.{seen}
+use Rattle.desk_rules.proofs.Common.{[], Done, first_refusal, setting_refusals, SetsSite, seen}
 use Rattle.desk_rules.proofs.SiteChangeLemmas.{made_decides, refused_decides}
 use Rattle.desk_rules.proofs.settings.decide_setting.Goals as goal
 

@@ -1,5 +1,4 @@
-use Rattle.desk_rules.proofs.Common.{rules, refusals_of, use_refusals}
-use Rattle.desk_rules.specs.Seen.{seen}
+use Rattle.desk_rules.proofs.Common.{rules, refusals_of, use_refusals, seen}
 use Rattle.desk_rules.proofs.RefusalLemmas.{answered, both_pass, passes_after, passes_before}
 use Rattle.desk_rules.proofs.settings.stage.Goals as goal
 

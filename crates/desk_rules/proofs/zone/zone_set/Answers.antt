@@ -1,4 +1,4 @@
-use Rattle.std.proofs.Common.{sym}
+use Rattle.desk_rules.proofs.Common.{sym}
 use Rattle.desk_rules.proofs.ZoneLemmas.{zoned}
 use Rattle.desk_rules.proofs.zone.zone_set.Goals as goal
 

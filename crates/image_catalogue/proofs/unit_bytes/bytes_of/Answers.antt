@@ -1,4 +1,4 @@
-use Rattle.std.proofs.Common.{sym}
+use Rattle.image_catalogue.proofs.Common.{sym}
 use Rattle.image_catalogue.proofs.CountLemmas.{first_recorded, none_recorded}
 use Rattle.image_catalogue.proofs.unit_bytes.bytes_of.Goals as goal
 

@@ -1,4 +1,4 @@
-use Rattle.std.proofs.Common.{arith}
+use Rattle.image_catalogue.proofs.Common.{arith}
 use Rattle.image_catalogue.proofs.CountLemmas.{first_recorded, lowered_at, lowered_none}
 use Rattle.image_catalogue.proofs.unit_bytes.lower.Goals as goal
 

@@ -1,4 +1,4 @@
-use Rattle.std.proofs.Common.{refl}
+use Rattle.image_catalogue.proofs.Common.{refl}
 use Rattle.image_catalogue.proofs.CountLemmas.{raised, pushed_as, first_as, sum_of}
 use Rattle.image_catalogue.proofs.unit_bytes.raise.Goals as goal
 

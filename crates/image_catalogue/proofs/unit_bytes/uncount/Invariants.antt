@@ -1,6 +1,4 @@
-use Rattle.std.proofs.Common.{◌≡◌, ◌+◌, ℕ, List, take}
-use Rattle.image_catalogue.specs.Images.{bytes_on}
-use Rattle.image_catalogue.specs.Counts.{recorded}
+use Rattle.image_catalogue.proofs.Common.{◌≡◌, ◌+◌, ℕ, List, take, bytes_on, recorded}
 use Rattle.image_catalogue.proofs.unit_bytes.uncount.Given as goal
 
 abbrev pub invariant-loop-copy : goal.invariant-loop-copy

@@ -1,4 +1,4 @@
-use Rattle.std.proofs.Common.{[], arith, ◌∙◌}
+use Rattle.image_kinds.proofs.Common.{[], arith, ◌∙◌}
 use Rattle.image_kinds.proofs.Fronts.{last_at}
 use Rattle.image_kinds.proofs.decode.last_path.Goals as goal
 

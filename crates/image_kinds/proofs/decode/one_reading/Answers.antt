@@ -1,5 +1,4 @@
-use Rattle.image_kinds.proofs.Common.{refl, map, Taken}
-use Rattle.image_kinds.specs.Streams.{spelled}
+use Rattle.image_kinds.proofs.Common.{refl, map, Taken, spelled}
 use Rattle.image_kinds.proofs.Fronts.{one_value, one_offset, spelled_is_good}
 use Rattle.image_kinds.proofs.Values.{same_entries}
 use Rattle.image_kinds.specs.declared.format.Format.TheVariants as format

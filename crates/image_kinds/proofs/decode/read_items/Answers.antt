@@ -1,5 +1,5 @@
+use Rattle.image_kinds.proofs.Common.{err_from_is_err_and}
 use Rattle.image_kinds.proofs.Fronts.{has_more, falls, item_fault}
-use Rattle.std.proofs.lemmas.Result.{err_from_is_err_and}
 use Rattle.image_kinds.proofs.decode.read_items.Goals as goal
 
 pub returns-in_err-item-clause-fault : goal.returns-in_err-item-clause-fault

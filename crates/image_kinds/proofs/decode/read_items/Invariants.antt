@@ -1,4 +1,4 @@
-use Rattle.std.proofs.Common.{length}
+use Rattle.image_kinds.proofs.Common.{length}
 use Rattle.image_kinds.proofs.Fronts.{HasRead}
 use Rattle.image_kinds.proofs.decode.read_items.Given as goal
 

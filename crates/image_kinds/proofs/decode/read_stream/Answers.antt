@@ -1,4 +1,4 @@
-use Rattle.std.proofs.Common.{◌∙◌, sym}
+use Rattle.image_kinds.proofs.Common.{◌∙◌, sym}
 use Rattle.image_kinds.proofs.Values.{stream_of, spelled_of}
 use Rattle.image_kinds.proofs.decode.read_stream.Goals as goal
 

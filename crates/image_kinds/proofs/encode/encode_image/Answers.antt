@@ -1,4 +1,4 @@
-use Rattle.std.proofs.Common.{[]}
+use Rattle.image_kinds.proofs.Common.{[]}
 use Rattle.image_kinds.proofs.Writing.{length_at}
 use Rattle.image_kinds.proofs.encode.encode_image.Goals as goal
 

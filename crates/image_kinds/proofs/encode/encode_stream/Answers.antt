@@ -1,5 +1,4 @@
-use Rattle.std.proofs.Common.{[]}
-use Rattle.image_kinds.specs.Streams.{letters_of}
+use Rattle.image_kinds.proofs.Common.{[], letters_of}
 use Rattle.image_kinds.proofs.Writing.{entry_length_at, written_more, written_all}
 use Rattle.image_kinds.specs.declared.format.Format.TheVariants as format
 use Rattle.image_kinds.proofs.encode.encode_stream.Goals as goal

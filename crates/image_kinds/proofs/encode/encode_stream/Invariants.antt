@@ -1,5 +1,4 @@
-use Rattle.std.proofs.Common.{◌≡◌, ◌++◌, take, flat_map}
-use Rattle.image_kinds.specs.Streams.{letters_of, spelled_entry}
+use Rattle.image_kinds.proofs.Common.{◌≡◌, ◌++◌, take, flat_map, letters_of, spelled_entry}
 use Rattle.image_kinds.specs.declared.format.Format.TheVariants as format
 use Rattle.image_kinds.proofs.encode.encode_stream.Given as goal
 

@@ -1,5 +1,4 @@
-use Rattle.image_kinds.proofs.Common.{w64, to_be_bytes}
-use Rattle.image_kinds.specs.Streams.{spelled_path, spelled_content}
+use Rattle.image_kinds.proofs.Common.{w64, to_be_bytes, spelled_path, spelled_content}
 use Rattle.image_kinds.proofs.Writing.{written}
 use Rattle.image_kinds.proofs.encode.write_entry.Goals as goal
 

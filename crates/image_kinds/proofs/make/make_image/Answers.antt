@@ -1,4 +1,4 @@
-use Rattle.std.proofs.Common.{◌∙◌, take_all}
+use Rattle.image_kinds.proofs.Common.{◌∙◌, take_all}
 use Rattle.image_kinds.proofs.Orders.{made_is}
 use Rattle.image_kinds.proofs.make.make_image.Goals as goal
 

@@ -1,5 +1,4 @@
-use Rattle.std.proofs.Common.{◌≡◌, take}
-use Rattle.image_kinds.specs.Images.{made}
+use Rattle.image_kinds.proofs.Common.{◌≡◌, take, made}
 use Rattle.image_kinds.proofs.make.make_image.Given as goal
 
 abbrev pub invariant-loop-entry : goal.invariant-loop-entry

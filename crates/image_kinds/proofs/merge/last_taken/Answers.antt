@@ -1,5 +1,5 @@
-use Rattle.std.proofs.Common.{arith, ◌-◌, ◌∙◌, sym, ap, Some, None, length, length-take}
-use Rattle.image_kinds.specs.Trees.{taken_in}
+use Rattle.image_kinds.proofs.Common.{arith, ◌-◌, ◌∙◌, sym, ap, Some, None, length, taken_in}
+use Rattle.std.proofs.Common.{length-take}
 use Rattle.image_kinds.proofs.Chains.{last_step}
 use Rattle.image_kinds.proofs.merge.last_taken.Goals as goal
 

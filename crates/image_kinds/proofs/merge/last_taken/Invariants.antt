@@ -1,5 +1,4 @@
-use Rattle.std.proofs.Common.{◌≡◌, ◌≤◌, length}
-use Rattle.image_kinds.specs.Trees.{last_taken}
+use Rattle.image_kinds.proofs.Common.{◌≡◌, ◌≤◌, length, last_taken}
 use Rattle.image_kinds.proofs.merge.last_taken.Given as goal
 
 abbrev pub invariant-loop-rest : goal.invariant-loop-rest

@@ -1,7 +1,5 @@
-use Rattle.image_kinds.proofs.Common.{arith, ◌++◌, [], ◌∷◌, ◌≡◌, ◌-◌, ◌∙◌, sym, ap, subst, Some, None, length, take, Option, append-nil, Entry}
+use Rattle.image_kinds.proofs.Common.{arith, ◌++◌, [], ◌∷◌, ◌≡◌, ◌-◌, ◌∙◌, sym, ap, subst, Some, None, length, take, Option, append-nil, Entry, IsImage, entry_behind}
 use Rattle.std.specs.Global.{Vec}
-use Rattle.image_kinds.specs.Streams.{IsImage}
-use Rattle.image_kinds.specs.Trees.{entry_behind}
 use Rattle.image_kinds.proofs.Chains.{merged_more, entries_more, merged_is, merged_all}
 use Rattle.image_kinds.proofs.merge.merged.Goals.{in-Some+in_ok-copy_of+in_ok-push, in_default-entry_behind}
 use Rattle.image_kinds.proofs.merge.merged.Goals as goal

@@ -1,7 +1,4 @@
-use Rattle.image_kinds.proofs.Common.{◌≡◌, take, map, Taken}
-use Rattle.std.specs.List.{AllByRecursion, filter_map}
-use Rattle.image_kinds.specs.Streams.{IsItem}
-use Rattle.image_kinds.specs.Trees.{entry_behind}
+use Rattle.image_kinds.proofs.Common.{◌≡◌, take, map, Taken, AllByRecursion, filter_map, IsItem, entry_behind}
 use Rattle.image_kinds.specs.declared.format.Format.TheVariants as format
 use Rattle.image_kinds.proofs.merge.merged.Given as goal
 

@@ -1,5 +1,4 @@
-use Rattle.std.proofs.Common.{arith, ◌/◌, ◌-◌, length, take, drop, ◌∙◌, Less, Equal, Greater}
-use Rattle.image_kinds.specs.Streams.{path_of}
+use Rattle.image_kinds.proofs.Common.{arith, ◌/◌, ◌-◌, length, take, drop, ◌∙◌, Less, Equal, Greater, path_of}
 use Rattle.image_kinds.proofs.Trees.{halved, compared, narrows_right, narrows_left, narrows_here}
 use Rattle.image_kinds.proofs.merge.taken_in.Goals as goal
 

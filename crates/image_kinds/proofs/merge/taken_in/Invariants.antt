@@ -1,4 +1,4 @@
-use Rattle.std.proofs.Common.{length}
+use Rattle.image_kinds.proofs.Common.{length}
 use Rattle.image_kinds.proofs.Trees.{Narrows}
 use Rattle.image_kinds.proofs.merge.taken_in.Given as goal
 

@@ -1,8 +1,5 @@
-use Rattle.std.proofs.Common.{ap}
-use Rattle.std.specs.Prelude.{not}
-use Rattle.policy_book.specs.Lists.{has}
+use Rattle.policy_book.proofs.Common.{ap, not, has, has_at, lacks_at}
 use Rattle.policy_book.specs.declared.fault.BookFault.TheVariants.{Unknown}
-use Rattle.slp_tree.proofs.ListLemmas.{has_at, lacks_at}
 use Rattle.policy_book.proofs.RefusalLemmas.{passes, refuses}
 use Rattle.policy_book.proofs.refusals.known_place.Goals as goal
 

@@ -1,7 +1,5 @@
-use Rattle.std.proofs.Common.{◌≡◌, ◌∙◌, ◌∷◌, ◌++◌, [], ℕ, List, map, Some, true, false, Bor, string_bytes, ap, arith}
+use Rattle.policy_book.proofs.Common.{◌≡◌, ◌∙◌, ◌∷◌, ◌++◌, [], ℕ, List, map, Some, true, false, Bor, string_bytes, ap, arith, view, members_view, joined, is_among, text_of, word_of, words_of}
 use Rattle.std.proofs.lemmas.Grind.{common_steps}
-use Rattle.toml.specs.View.{view, members_view}
-use Rattle.policy_book.specs.SiteFile.{joined, is_among, text_of, word_of, words_of}
 use Rattle.policy_book.proofs.LineLemmas.{words_more}
 use Rattle.policy_book.proofs.request_lines.add_words.Goals as goal
 

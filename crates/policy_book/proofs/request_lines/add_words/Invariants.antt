@@ -1,6 +1,4 @@
-use Rattle.std.proofs.Common.{◌≡◌, map, Some}
-use Rattle.policy_book.specs.SiteFile.{joined, words_of}
-use Rattle.toml.specs.View.{members_view}
+use Rattle.policy_book.proofs.Common.{◌≡◌, map, Some, joined, words_of, members_view}
 use Rattle.policy_book.proofs.request_lines.add_words.Given as goal
 
 -- the words so far before those of the other members are the words of them all

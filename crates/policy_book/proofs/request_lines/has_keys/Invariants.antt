@@ -1,6 +1,4 @@
-use Rattle.std.proofs.Common.{◌≡◌, map}
-use Rattle.policy_book.specs.SiteFile.{has_keys}
-use Rattle.toml.specs.View.{members_view}
+use Rattle.policy_book.proofs.Common.{◌≡◌, map, has_keys, members_view}
 use Rattle.policy_book.proofs.request_lines.has_keys.Given as goal
 
 abbrev pub invariant-members : goal.invariant-members

@@ -1,5 +1,4 @@
-use Rattle.std.proofs.Common.{◌≡◌, map, drop}
-use Rattle.policy_book.specs.SiteFile.{is_among}
+use Rattle.policy_book.proofs.Common.{◌≡◌, map, drop, is_among}
 use Rattle.policy_book.proofs.request_lines.is_among.Given as goal
 
 abbrev pub invariant-loop-known : goal.invariant-loop-known

@@ -1,7 +1,4 @@
-use Rattle.std.proofs.Common.{rules, codes}
-use Rattle.toml.specs.Data.{get_member}
-use Rattle.toml.specs.View.{table_view}
-use Rattle.policy_book.specs.SiteFile.{joined, tables_at, zone_lines, unit_line, client_line, policy_lines}
+use Rattle.policy_book.proofs.Common.{rules, codes, get_member, table_view, joined, tables_at, zone_lines, unit_line, client_line, policy_lines}
 use Rattle.policy_book.proofs.LineLemmas.{none_behind, none_before, adds_rest}
 use Rattle.policy_book.proofs.site_file.add_all.Goals as goal
 

@@ -1,4 +1,4 @@
-use Rattle.std.proofs.Common.{◌≡◌}
+use Rattle.policy_book.proofs.Common.{◌≡◌}
 use Rattle.policy_book.proofs.site_file.add_parts.Goals as goal
 
 pub returns : goal.returns

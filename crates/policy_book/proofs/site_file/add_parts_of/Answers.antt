@@ -1,6 +1,5 @@
-use Rattle.std.proofs.Common.{rules}
-use Rattle.toml.specs.View.{table_view}
-use Rattle.policy_book.specs.SiteFile.{clients_of, selections_of, schedules_of, joined}
+use Rattle.policy_book.proofs.Common.{rules, table_view, joined}
+use Rattle.policy_book.specs.SiteFile.{clients_of, selections_of, schedules_of}
 use Rattle.policy_book.proofs.LineLemmas.{none_behind, none_before, adds_rest}
 use Rattle.policy_book.proofs.site_file.add_parts_of.Goals as goal
 

@@ -1,5 +1,4 @@
-use Rattle.std.proofs.Common.{◌≡◌, ◌∙◌, codes}
-use Rattle.policy_book.specs.SiteFile.{on_policy}
+use Rattle.policy_book.proofs.Common.{◌≡◌, ◌∙◌, codes, on_policy}
 use Rattle.policy_book.proofs.site_file.add_schedules.Goals as goal
 
 pub returns : goal.returns

@@ -1,6 +1,4 @@
-use Rattle.std.proofs.Common.{◌≡◌, Some, drop}
-use Rattle.policy_book.specs.SiteFile.{joined, of_items, with_word, path_word}
-use Rattle.toml.specs.View.{items_view}
+use Rattle.policy_book.proofs.Common.{◌≡◌, Some, drop, joined, of_items, with_word, path_word, items_view}
 use Rattle.policy_book.proofs.site_file.add_selections.Given as goal
 
 -- the lines so far before those of the other items are the lines of them all

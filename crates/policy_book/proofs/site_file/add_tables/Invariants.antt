@@ -1,6 +1,4 @@
-use Rattle.std.proofs.Common.{◌≡◌, Some, [], map, drop}
-use Rattle.policy_book.specs.SiteFile.{joined, of_items, table_with, one, request_of}
-use Rattle.toml.specs.View.{items_view}
+use Rattle.policy_book.proofs.Common.{◌≡◌, Some, [], map, drop, joined, of_items, table_with, one, request_of, items_view}
 use Rattle.policy_book.proofs.site_file.add_tables.Given as goal
 
 -- the lines so far before those of the other items are the lines of them all

@@ -1,4 +1,4 @@
-use Rattle.std.proofs.Common.{◌≡◌, ◌∙◌, [], ◌∷◌, codes}
+use Rattle.policy_book.proofs.Common.{◌≡◌, ◌∙◌, [], ◌∷◌, codes}
 use Rattle.policy_book.proofs.site_file.add_units.Goals as goal
 
 pub returns : goal.returns

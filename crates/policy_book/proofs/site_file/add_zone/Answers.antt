@@ -1,6 +1,4 @@
-use Rattle.std.proofs.Common.{◌≡◌, ◌∙◌, Some, codes, sym, ap}
-use Rattle.toml.specs.Data.{get_member, table}
-use Rattle.toml.specs.View.{view, table_view}
+use Rattle.policy_book.proofs.Common.{◌≡◌, ◌∙◌, Some, codes, sym, ap, get_member, table, view, table_view}
 use Rattle.toml.proofs.Views.{view-Table}
 use Rattle.policy_book.proofs.site_file.add_zone.Goals as goal
 

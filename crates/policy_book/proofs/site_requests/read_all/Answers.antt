@@ -1,9 +1,8 @@
-use Rattle.std.proofs.Common.{◌≡◌, List, All, true, sym, subst}
+use Rattle.policy_book.proofs.Common.{◌≡◌, List, All, true, sym, subst, changes_site, requests_of}
 use Rattle.std.specs.List.{AllPass}
 use Rattle.std.proofs.lemmas.List.Elements.{All-push}
 use Rattle.site_types.specs.Lines.{IsFormed}
 use Rattle.site_types.specs.declared.request.Request.{Request}
-use Rattle.policy_book.specs.SiteFile.{changes_site, requests_of}
 use Rattle.policy_book.proofs.RequestLemmas.{requests_step}
 use Rattle.policy_book.proofs.site_requests.read_all.Goals as goal
 

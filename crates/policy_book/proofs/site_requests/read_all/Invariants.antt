@@ -1,7 +1,6 @@
-use Rattle.std.proofs.Common.{◌≡◌, Some, All, drop}
+use Rattle.policy_book.proofs.Common.{◌≡◌, Some, All, drop, changes_site, joined, requests_of}
 use Rattle.std.specs.List.{AllPass}
 use Rattle.site_types.specs.Lines.{IsFormed}
-use Rattle.policy_book.specs.SiteFile.{changes_site, joined, requests_of}
 use Rattle.policy_book.proofs.site_requests.read_all.Given as goal
 
 -- the requests so far before those of the other lines are the requests of them all

@@ -1,4 +1,4 @@
-use Rattle.std.proofs.Common.{refl, arith}
+use Rattle.pool_journal.proofs.Common.{refl, arith}
 use Rattle.pool_journal.proofs.FieldLemmas.{whole_image_read}
 use Rattle.pool_journal.proofs.Suffixes.{fields_end, no_longer}
 use Rattle.pool_journal.proofs.entry.read_entry.Goals as goal

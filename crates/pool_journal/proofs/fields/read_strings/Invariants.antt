@@ -1,5 +1,4 @@
-use Rattle.std.proofs.Common.{◌≡◌, ◌-◌}
-use Rattle.pool_journal.specs.Fields.{strings_field}
+use Rattle.pool_journal.proofs.Common.{◌≡◌, ◌-◌, strings_field}
 use Rattle.pool_journal.proofs.Lines.{behind_texts}
 use Rattle.pool_journal.proofs.fields.read_strings.Given as goal
 

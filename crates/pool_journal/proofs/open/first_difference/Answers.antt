@@ -1,4 +1,4 @@
-use Rattle.std.proofs.Common.{arith, length-drop, nat_eq, drop}
+use Rattle.pool_journal.proofs.Common.{arith, length-drop, nat_eq, drop}
 use Rattle.std.proofs.lemmas.List.Sums.{common_prefix_len-le}
 use Rattle.pool_journal.proofs.open.first_difference.Goals as goal
 

@@ -1,6 +1,4 @@
-use Rattle.std.proofs.Common.{ap, refl, arith, ℕ, ◌+◌, ◌-◌, [], ◌∷◌, ◌++◌, length}
-use Rattle.pool_journal.specs.Entries.{Record}
-use Rattle.pool_journal.specs.Records.{Found}
+use Rattle.pool_journal.proofs.Common.{ap, refl, arith, ℕ, ◌+◌, ◌-◌, [], ◌∷◌, ◌++◌, length, Record, Found}
 use Rattle.pool_journal.proofs.Bytes.{AllSmall-push}
 use Rattle.pool_journal.proofs.Reading.{cons_of, told_found, told_broken, cut_short, spells_none, one_more, one_more_spelled, one_more_placed, behind_header}
 use Rattle.pool_journal.proofs.records.read_records.Goals as goal

@@ -1,5 +1,4 @@
-use Rattle.std.proofs.Common.{◌≡◌, ◌<◌, ◌++◌, List, ℕ, length}
-use Rattle.pool_journal.specs.Records.{Found, header, spelled, placed, AllSmall, Spell}
+use Rattle.pool_journal.proofs.Common.{◌≡◌, ◌<◌, ◌++◌, List, ℕ, length, Found, header, spelled, placed, AllSmall, Spell}
 use Rattle.pool_journal.proofs.records.read_records.Given as goal
 
 abbrev pub invariant-loop-rest : goal.invariant-loop-rest

@@ -1,5 +1,4 @@
-use Rattle.std.proofs.Common.{◌≡◌, ◌-◌, ◌^◌, min, length, take}
-use Rattle.pool_journal.specs.Fields.{strings}
+use Rattle.pool_journal.proofs.Common.{◌≡◌, ◌-◌, ◌^◌, min, length, take, strings}
 use Rattle.pool_journal.proofs.size.strings_size.Given as goal
 
 abbrev pub invariant-loop-text : goal.invariant-loop-text

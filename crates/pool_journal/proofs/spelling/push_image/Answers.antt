@@ -1,4 +1,4 @@
-use Rattle.pool_journal.specs.Entries.{spelled_id, spelled_names, spelled_kind_and_base, spelled_lifecycle, spelled_longs}
+use Rattle.pool_journal.proofs.Common.{spelled_id, spelled_names, spelled_kind_and_base, spelled_lifecycle, spelled_longs}
 use Rattle.pool_journal.proofs.FieldLemmas.{five_pushed}
 use Rattle.pool_journal.proofs.spelling.push_image.Goals as goal
 

@@ -1,4 +1,5 @@
-use Rattle.std.proofs.Common.{◌≡◌, slice_index_or, sym, subst, ℕ, List, append-nil, take_all}
+use Rattle.pool_journal.proofs.Common.{◌≡◌, slice_index_or, sym, subst, ℕ, List, append-nil}
+use Rattle.std.proofs.Common.{take_all}
 use Rattle.pool_journal.proofs.Lines.{short_at, pushed_more}
 use Rattle.pool_journal.proofs.spelling.push_strings.Goals as goal
 

@@ -1,5 +1,4 @@
-use Rattle.std.proofs.Common.{◌≡◌, ◌++◌, take}
-use Rattle.pool_journal.specs.Fields.{strings}
+use Rattle.pool_journal.proofs.Common.{◌≡◌, ◌++◌, take, strings}
 use Rattle.pool_journal.proofs.spelling.push_strings.Given as goal
 
 abbrev pub invariant-loop-text : goal.invariant-loop-text

@@ -1,6 +1,5 @@
-use Rattle.std.proofs.Common.{◌≡◌, ◌∙◌, sym, ap, arith}
+use Rattle.schedule_windows.proofs.Common.{◌≡◌, ◌∙◌, sym, ap, arith, signed_casts}
 use Rattle.jiff_core.specs.Date.{epoch_day}
-use Rattle.jiff_core.proofs.SignedLemmas.{signed_casts}
 use Rattle.schedule_windows.specs.RunDays.{date_of}
 use Rattle.schedule_windows.proofs.Dates.{date_of-date}
 use Rattle.schedule_windows.proofs.calendar.date_of.Goals as goal

@@ -1,7 +1,4 @@
-use Rattle.std.proofs.Common.{◌∙◌, sym, refl, true, false, w64}
-use Rattle.std.proofs.lemmas.Int.{to_z-of_z}
-use Rattle.std.specs.List.{list_any}
-use Rattle.schedule_windows.specs.RunDays.{year_month_day, excludes}
+use Rattle.schedule_windows.proofs.Common.{◌∙◌, sym, refl, true, false, w64, to_z-of_z, list_any, year_month_day, excludes}
 use Rattle.schedule_windows.proofs.Dates.{is_run_day-by}
 use Rattle.schedule_windows.proofs.calendar.is_run_day.Goals as goal
 

@@ -1,8 +1,5 @@
-use Rattle.std.proofs.Common.{◌≡◌, ◌∙◌, ◌+◌, ◌-◌, ◌<◌, ℕ, w32, FitsSigned, arith}
-use Rattle.std.proofs.lemmas.Int.{to_z-of_z}
-use Rattle.jiff_core.proofs.SignedLemmas.{signed_arith}
+use Rattle.schedule_windows.proofs.Common.{◌≡◌, ◌∙◌, ◌+◌, ◌-◌, ◌<◌, ℕ, w32, FitsSigned, arith, to_z-of_z, signed_arith, ZoneOf}
 use Rattle.site_types.specs.declared.window.Windows.{Windows}
-use Rattle.schedule_windows.specs.Zones.{ZoneOf}
 use Rattle.schedule_windows.proofs.Opens.{is_open_later, closed_on}
 use Rattle.schedule_windows.proofs.next.next_open.Goals as goal
 

@@ -1,5 +1,4 @@
-use Rattle.std.proofs.Common.{◌-◌, ◌≤◌}
-use Rattle.schedule_windows.specs.Opens.{IsClosedBetween}
+use Rattle.schedule_windows.proofs.Common.{◌-◌, ◌≤◌, IsClosedBetween}
 use Rattle.schedule_windows.proofs.next.next_open.Given as goal
 
 abbrev pub invariant-loop-at : goal.invariant-loop-at

@@ -1,8 +1,5 @@
-use Rattle.std.proofs.Common.{◌≡◌, ◌+◌, ℕ, List, refl, arith, inl, inr}
-use Rattle.std.proofs.lemmas.Bool.Decides.{leb_tells}
-use Rattle.schedule_windows.specs.declared.week.WeekSpan.{WeekSpan}
-use Rattle.schedule_windows.specs.Opens.{is_open_after, is_span_open}
-use Rattle.schedule_windows.specs.Weeks.{spans}
+use Rattle.schedule_windows.proofs.Common.{◌≡◌, ◌+◌, ℕ, List, refl, arith, inl, inr, leb_tells, WeekSpan, is_span_open, spans}
+use Rattle.schedule_windows.specs.Opens.{is_open_after}
 use Rattle.std.proofs.lemmas.List.Folds.{list_any_kept}
 use Rattle.schedule_windows.proofs.Walks.{any_neither, any_last}
 use Rattle.schedule_windows.proofs.next.wait_within.Goals as goal

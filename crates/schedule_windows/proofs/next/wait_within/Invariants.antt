@@ -1,6 +1,5 @@
-use Rattle.std.proofs.Common.{◌≡◌, ◌+◌, ◌<◌, ◌≤◌, ℕ, take, true, false}
+use Rattle.schedule_windows.proofs.Common.{◌≡◌, ◌+◌, ◌<◌, ◌≤◌, ℕ, take, true, false, spans}
 use Rattle.schedule_windows.specs.Opens.{is_open_after}
-use Rattle.schedule_windows.specs.Weeks.{spans}
 use Rattle.schedule_windows.proofs.next.wait_within.Given as goal
 
 abbrev pub invariant-loop-index : goal.invariant-loop-index

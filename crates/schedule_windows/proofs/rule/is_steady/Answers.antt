@@ -1,11 +1,6 @@
-use Rattle.std.proofs.Common.{◌≡◌, ◌∙◌, ap, sym, pos, arith, ℤ, ◌<ℤ◌, FitsSigned, to_z, of_z}
-use Rattle.std.specs.Int.{w16, w128}
+use Rattle.schedule_windows.proofs.Common.{◌≡◌, ◌∙◌, ap, sym, pos, arith, ℤ, ◌<ℤ◌, FitsSigned, to_z, of_z, w16, w128, to_z-of_z, nanos_of_seconds, signed_arith, next_at, transition_view}
 use Rattle.std.specs.Prelude.{option_map}
 use borrow.Author.Differences.{lt-true}
-use Rattle.std.proofs.lemmas.Int.{to_z-of_z}
-use Rattle.jiff_core.specs.Timestamp.{nanos_of_seconds}
-use Rattle.jiff_core.proofs.SignedLemmas.{signed_arith}
-use Rattle.jiff_tz.specs.PosixRule.{next_at, transition_view}
 use Rattle.schedule_windows.proofs.rule.is_steady.Goals as goal
 
 pub returns-then-year_of : goal.returns-then-year_of

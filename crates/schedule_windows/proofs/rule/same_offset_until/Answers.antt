@@ -1,4 +1,4 @@
-use Rattle.std.proofs.Common.{arith}
+use Rattle.schedule_windows.proofs.Common.{arith}
 use Rattle.schedule_windows.proofs.Steady.{steady_offset}
 use Rattle.schedule_windows.proofs.rule.same_offset_until.Goals as goal
 

@@ -1,8 +1,6 @@
-use Rattle.std.proofs.Common.{arith, ◌≡◌, ◌∙◌, pos}
+use Rattle.schedule_windows.proofs.Common.{arith, ◌≡◌, ◌∙◌, pos, nanos_of_seconds, signed_arith}
 use Rattle.jiff_core.specs.DateTime.{civil_nanos}
-use Rattle.jiff_core.specs.Timestamp.{nanos_of_seconds}
 use Rattle.jiff_core.proofs.DateLemmas.{civil}
-use Rattle.jiff_core.proofs.SignedLemmas.{signed_arith}
 use Rattle.jiff_tz.proofs.YearLemmas.{back_year, year_of_nanos-civil}
 use Rattle.schedule_windows.proofs.rule.year_of.Goals as goal
 

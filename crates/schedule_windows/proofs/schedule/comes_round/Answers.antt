@@ -1,6 +1,4 @@
-use Rattle.std.proofs.Common.{◌∙◌, sym, refl, true, false, FitsSigned, w64, rules}
-use Rattle.std.proofs.lemmas.Int.{to_z-of_z}
-use Rattle.schedule_windows.specs.Schedules.{is_before}
+use Rattle.schedule_windows.proofs.Common.{◌∙◌, sym, refl, true, false, FitsSigned, w64, rules, to_z-of_z, is_before}
 use Rattle.schedule_windows.proofs.Rounds.{calendar_round}
 use Rattle.schedule_windows.proofs.schedule.comes_round.Goals as goal
 

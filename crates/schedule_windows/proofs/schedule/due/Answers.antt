@@ -1,6 +1,4 @@
-use Rattle.std.proofs.Common.{◌∙◌, sym}
-use Rattle.schedule_windows.specs.Schedules.{is_due_in}
-use Rattle.schedule_windows.specs.Weeks.{spans}
+use Rattle.schedule_windows.proofs.Common.{◌∙◌, sym, is_due_in, spans}
 use Rattle.schedule_windows.proofs.Walks.{any_neither, any_at}
 use Rattle.schedule_windows.proofs.schedule.due.Goals as goal
 

@@ -1,7 +1,4 @@
-use Rattle.std.proofs.Common.{◌≡◌, take, false}
-use Rattle.std.specs.List.{list_any}
-use Rattle.schedule_windows.specs.Schedules.{is_due_in}
-use Rattle.schedule_windows.specs.Weeks.{spans}
+use Rattle.schedule_windows.proofs.Common.{◌≡◌, take, false, list_any, spans, is_due_in}
 use Rattle.schedule_windows.proofs.schedule.due.Given as goal
 
 abbrev pub invariant-loop-index : goal.invariant-loop-index

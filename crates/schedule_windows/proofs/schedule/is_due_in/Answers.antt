@@ -1,5 +1,4 @@
-use Rattle.std.proofs.Common.{◌∙◌, sym, FitsSigned, w64, rules}
-use Rattle.std.proofs.lemmas.Int.{to_z-of_z}
+use Rattle.schedule_windows.proofs.Common.{◌∙◌, sym, FitsSigned, w64, rules, to_z-of_z}
 use Rattle.schedule_windows.proofs.Rounds.{is_due_in-open}
 use Rattle.schedule_windows.proofs.schedule.is_due_in.Goals as goal
 

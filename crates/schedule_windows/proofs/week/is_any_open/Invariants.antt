@@ -1,6 +1,4 @@
-use Rattle.std.proofs.Common.{◌≡◌, false, take}
-use Rattle.std.specs.List.{list_any}
-use Rattle.schedule_windows.specs.Weeks.{is_open, spans}
+use Rattle.schedule_windows.proofs.Common.{◌≡◌, false, take, list_any, is_open, spans}
 use Rattle.schedule_windows.proofs.week.is_any_open.Given as goal
 
 abbrev pub invariant-loop-index : goal.invariant-loop-index

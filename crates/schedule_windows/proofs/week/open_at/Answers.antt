@@ -1,7 +1,5 @@
-use Rattle.std.proofs.Common.{◌∙◌, sym, ap, ℤ, FitsSigned, w64, rules}
-use Rattle.std.proofs.lemmas.Int.{to_z-of_z}
+use Rattle.schedule_windows.proofs.Common.{◌∙◌, sym, ap, ℤ, FitsSigned, w64, rules, to_z-of_z, spans}
 use Rattle.std.specs.Prelude.{Some}
-use Rattle.schedule_windows.specs.Weeks.{spans}
 use Rattle.schedule_windows.proofs.Walks.{first_open_here, first_open_later}
 use Rattle.schedule_windows.proofs.week.open_at.Goals as goal
 

@@ -1,5 +1,4 @@
-use Rattle.std.proofs.Common.{◌≡◌, drop}
-use Rattle.schedule_windows.specs.Weeks.{first_open, spans}
+use Rattle.schedule_windows.proofs.Common.{◌≡◌, drop, first_open, spans}
 use Rattle.schedule_windows.proofs.week.open_at.Given as goal
 
 abbrev pub invariant-loop-index : goal.invariant-loop-index

@@ -1,5 +1,4 @@
-use Rattle.std.proofs.Common.{◌∙◌, ap, List, ℕ, position}
-use Rattle.session_text.specs.Turns.{is_line_feed}
+use Rattle.session_text.proofs.Common.{◌∙◌, ap, List, ℕ, position, is_line_feed}
 use Rattle.session_text.proofs.Lines.{front_is}
 use Rattle.session_text.proofs.line.find_line_end.Goals as goal
 

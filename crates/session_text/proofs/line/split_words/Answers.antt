@@ -1,7 +1,6 @@
-use Rattle.std.proofs.Common.{◌∙◌, rules, tests}
+use Rattle.session_text.proofs.Common.{◌∙◌, rules, tests, is_space}
 use Rattle.std.proofs.lemmas.Iterator.Consumers.{YieldsList-end, YieldsList-at}
 use Rattle.std.proofs.lemmas.Iterator.Splits.{YieldsList-from_slice_split}
-use Rattle.session_text.specs.Turns.{is_space}
 use Rattle.session_text.proofs.line.split_words.Goals as goal
 
 pub returns-clause-words : goal.returns-clause-words

@@ -1,4 +1,4 @@
-use Rattle.std.proofs.Common.{◌≡◌, map}
+use Rattle.session_text.proofs.Common.{◌≡◌, map}
 use Rattle.session_text.proofs.line.split_words.Given as goal
 
 abbrev pub invariant-loop-word : goal.invariant-loop-word

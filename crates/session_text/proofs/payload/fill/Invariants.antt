@@ -1,4 +1,4 @@
-use Rattle.std.proofs.Common.{vec_capacity, ◌≡◌, ◌≤◌, ◌-◌, ◌++◌, length}
+use Rattle.session_text.proofs.Common.{vec_capacity, ◌≡◌, ◌≤◌, ◌-◌, ◌++◌, length}
 use Rattle.vault_disk.specs.Input.{IsSameInput}
 use Rattle.session_text.proofs.payload.fill.Given as goal
 

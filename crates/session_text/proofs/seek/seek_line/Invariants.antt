@@ -1,6 +1,5 @@
-use Rattle.std.proofs.Common.{◌≡◌, ◌+◌, ◌-◌, ◌++◌, length}
+use Rattle.session_text.proofs.Common.{◌≡◌, ◌+◌, ◌-◌, ◌++◌, length, line_limit}
 use Rattle.vault_disk.specs.Input.{IsSameInput}
-use Rattle.session_text.specs.Turns.{line_limit}
 use Rattle.session_text.proofs.seek.seek_line.Given as goal
 
 abbrev pub invariant-loop-end : goal.invariant-loop-end

@@ -1,6 +1,5 @@
-use Rattle.std.proofs.Common.{rules, arith, ◌<◌, ◌∙◌, length, ap}
+use Rattle.session_text.proofs.Common.{rules, arith, ◌<◌, ◌∙◌, length, ap, drop_all}
 use Rattle.std.proofs.lemmas.Bool.Decides.{nat_tests}
-use Rattle.std.proofs.lemmas.List.{drop_all}
 use Rattle.session_text.proofs.Wholes.{last_request, last_cut, last_bad}
 use Rattle.session_text.proofs.session.take_last.Goals as goal
 

@@ -1,5 +1,4 @@
-use Rattle.std.proofs.Common.{refl, ◌∙◌, ◌++◌, ℕ, List, ap, sym, subst, append-nil}
-use Rattle.session_text.specs.Session.{BreaksAt}
+use Rattle.session_text.proofs.Common.{refl, ◌∙◌, ◌++◌, ℕ, List, ap, sym, subst, append-nil, BreaksAt}
 use Rattle.session_text.proofs.Wholes.{breaks_long, ended}
 use Rattle.session_text.proofs.session.take_next.Goals as goal
 

@@ -1,6 +1,5 @@
-use Rattle.std.proofs.Common.{min, refl, arith, ◌≡◌, ◌∙◌, ◌≤◌, ◌+◌, ◌++◌, ℕ, List, length, take, drop, ap, sym, subst, append-nil}
+use Rattle.session_text.proofs.Common.{min, refl, arith, ◌≡◌, ◌∙◌, ◌≤◌, ◌+◌, ◌++◌, ℕ, List, length, take, drop, ap, sym, subst, append-nil, BreaksAt}
 use Rattle.std.proofs.lemmas.Grind.{common_steps}
-use Rattle.session_text.specs.Session.{BreaksAt}
 use Rattle.session_text.proofs.Wholes.{whole_held, kept_cut, breaks_cut, none_cut}
 use Rattle.session_text.proofs.session.take_payload.Goals as goal
 

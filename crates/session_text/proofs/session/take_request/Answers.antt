@@ -1,5 +1,4 @@
-use Rattle.std.proofs.Common.{◌≡◌, refl, ◌∙◌, ap, sym, take, append-nil}
-use Rattle.session_text.specs.Turns.{payload_size, last_index, words_of, words_before, without_return}
+use Rattle.session_text.proofs.Common.{◌≡◌, refl, ◌∙◌, ap, sym, take, append-nil, payload_size, last_index, words_of, words_before, without_return}
 use Rattle.session_text.proofs.Wholes.{breaks_word}
 use Rattle.session_text.proofs.session.take_request.Goals as goal
 

@@ -1,4 +1,4 @@
-use Rattle.std.proofs.Common.{◌≡◌, rules}
+use Rattle.site_types.proofs.Common.{◌≡◌, rules}
 use Rattle.site_types.proofs.CalendarLemmas.{date_of-made}
 use Rattle.site_types.proofs.calendar_word.day_named.Goals as goal
 

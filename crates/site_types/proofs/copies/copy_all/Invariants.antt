@@ -1,4 +1,4 @@
-use Rattle.std.proofs.Common.{◌≡◌, take}
+use Rattle.site_types.proofs.Common.{◌≡◌, take}
 use Rattle.site_types.proofs.copies.copy_all.Given as goal
 
 abbrev pub invariant-loop-item : goal.invariant-loop-item

@@ -1,7 +1,6 @@
-use Rattle.std.proofs.Common.{◌≡◌, ◌∙◌, sym, ap, rules, true, ℕ}
+use Rattle.site_types.proofs.Common.{◌≡◌, ◌∙◌, sym, ap, rules, true, ℕ, list_all}
 use Rattle.std.specs.Prelude.{Result}
 use Rattle.std.specs.Char.{is_ascii_digit}
-use Rattle.std.specs.List.{list_all}
 use Rattle.std.specs.Result.{result_ok}
 use Rattle.site_types.proofs.DigitLemmas.{IsUtf8-digits, digits-parsed, digits_of-digits}
 use Rattle.site_types.proofs.digits.read_digits.Goals as goal

@@ -1,6 +1,4 @@
-use Rattle.std.proofs.Common.{◌∙◌, ap}
-use Rattle.std.specs.Prelude.{find}
-use Rattle.site_types.specs.Forms.{begins}
+use Rattle.site_types.proofs.Common.{◌∙◌, ap, find, begins}
 use Rattle.site_types.proofs.RereadLemmas.{row_begins, row_is}
 use Rattle.site_types.proofs.forms.form_among.Goals as goal
 

@@ -1,4 +1,4 @@
-use Rattle.std.proofs.Common.{◌∙◌, if◌then◌else◌, sym}
+use Rattle.site_types.proofs.Common.{◌∙◌, if◌then◌else◌, sym}
 use Rattle.site_types.proofs.RereadLemmas.{formless_by}
 use Rattle.site_types.proofs.forms.formless.Goals as goal
 

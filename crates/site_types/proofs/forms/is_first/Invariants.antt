@@ -1,7 +1,4 @@
-use Rattle.std.proofs.Common.{◌≡◌, map, drop}
-use Rattle.std.specs.List.{list_any}
-use Rattle.std.specs.Str.{bytes_eq}
-use Rattle.site_types.specs.Forms.{row_stated}
+use Rattle.site_types.proofs.Common.{◌≡◌, map, drop, list_any, bytes_eq, row_stated}
 use Rattle.site_types.proofs.forms.is_first.Given as goal
 
 abbrev pub invariant-loop-row : goal.invariant-loop-row

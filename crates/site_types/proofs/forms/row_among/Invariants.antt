@@ -1,6 +1,4 @@
-use Rattle.std.proofs.Common.{◌≡◌, map, drop}
-use Rattle.std.specs.Prelude.{find}
-use Rattle.site_types.specs.Forms.{begins, row_stated}
+use Rattle.site_types.proofs.Common.{◌≡◌, map, drop, find, begins, row_stated}
 use Rattle.site_types.proofs.forms.row_among.Given as goal
 
 abbrev pub invariant-loop-row : goal.invariant-loop-row

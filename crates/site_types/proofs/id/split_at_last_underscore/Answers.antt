@@ -1,4 +1,4 @@
-use Rattle.std.proofs.Common.{rules, arith, ◌≡◌, ◌<◌, ◌-◌, ◌+◌, ℕ, length, take, drop, ap, sym, ◌∙◌}
+use Rattle.site_types.proofs.Common.{rules, arith, ◌≡◌, ◌<◌, ◌-◌, ◌+◌, ℕ, length, take, drop, ap, sym, ◌∙◌}
 use Rattle.std.proofs.lemmas.List.{take_rest}
 use Rattle.site_types.proofs.IdLemmas.{behind_last, without_one}
 use Rattle.site_types.proofs.id.split_at_last_underscore.Goals as goal

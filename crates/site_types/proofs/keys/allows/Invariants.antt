@@ -1,5 +1,4 @@
-use Rattle.std.proofs.Common.{◌≡◌, map, drop}
-use Rattle.site_types.specs.Keys.{allows, key_stated}
+use Rattle.site_types.proofs.Common.{◌≡◌, map, drop, allows, key_stated}
 use Rattle.site_types.proofs.keys.allows.Given as goal
 
 abbrev pub invariant-loop-key : goal.invariant-loop-key

@@ -1,5 +1,4 @@
-use Rattle.std.proofs.Common.{◌≡◌, ◌+◌, map, take, drop, []}
-use Rattle.site_types.specs.Keys.{first_bad, key_stated}
+use Rattle.site_types.proofs.Common.{◌≡◌, ◌+◌, map, take, drop, [], first_bad, key_stated}
 use Rattle.site_types.proofs.keys.first_bad.Given as goal
 
 abbrev pub invariant-loop-index : goal.invariant-loop-index

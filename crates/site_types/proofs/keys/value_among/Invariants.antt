@@ -1,5 +1,4 @@
-use Rattle.std.proofs.Common.{◌≡◌, drop}
-use Rattle.site_types.specs.Keys.{value_among}
+use Rattle.site_types.proofs.Common.{◌≡◌, drop, value_among}
 use Rattle.site_types.proofs.keys.value_among.Given as goal
 
 abbrev pub invariant-loop-word : goal.invariant-loop-word

@@ -1,8 +1,5 @@
-use Rattle.std.proofs.Common.{rules, arith, ◌≡◌, ◌∙◌, sym, ap, true}
+use Rattle.site_types.proofs.Common.{rules, arith, ◌≡◌, ◌∙◌, sym, ap, true, bytes_eq-Decides, decimal, bytes_eq}
 use Rattle.std.proofs.lemmas.Fmt.{parse-decimal}
-use Rattle.std.proofs.lemmas.Slice.Eq.{bytes_eq-Decides}
-use Rattle.std.specs.Fmt.{decimal}
-use Rattle.std.specs.Str.{bytes_eq}
 use Rattle.site_types.proofs.NumberLemmas.{number_up_to-decimal, number_up_to-none, IsUtf8-decimal}
 use Rattle.site_types.proofs.number.read_number.Goals as goal
 use Rattle.site_types.proofs.number.read_number.Goals.{else-number-limit-via-then-number-limit+else-is_decimal_of, else-number-limit-via-else-number-limit}

@@ -1,5 +1,4 @@
-use Rattle.std.proofs.Common.{◌≡◌, ◌++◌, length}
-use Rattle.site_types.specs.Paths.{unwritten}
+use Rattle.site_types.proofs.Common.{◌≡◌, ◌++◌, length, unwritten}
 use Rattle.site_types.proofs.path_word.unwritten.Given as goal
 
 abbrev pub invariant-loop-byte : goal.invariant-loop-byte

@@ -1,4 +1,4 @@
-use Rattle.std.proofs.Common.{◌≡◌, rules}
+use Rattle.site_types.proofs.Common.{◌≡◌, rules}
 use Rattle.site_types.proofs.WindowLemmas.{window_at-made}
 use Rattle.site_types.proofs.window_word.window_at.Goals as goal
 

@@ -1,5 +1,4 @@
-use Rattle.std.proofs.Common.{◌≡◌, ◌<◌, ◌++◌, ◌∷◌, [], length, true, false, arith}
-use Rattle.slp_tree.specs.Due.{is_due, ranked}
+use Rattle.slp_tree.proofs.Common.{◌≡◌, ◌<◌, ◌++◌, ◌∷◌, [], length, true, false, arith, is_due, ranked}
 use Rattle.slp_tree.proofs.DueLemmas.{due_pushed, due_passed}
 use Rattle.slp_tree.proofs.due.push_due.Goals as goal
 use Rattle.slp_tree.proofs.due.push_due.Goals.{then-is_due+in_ok-copy+in_ok-push, else-is_due}

@@ -1,5 +1,4 @@
-use Rattle.std.proofs.Common.{◌≡◌, ◌++◌, Some}
-use Rattle.slp_tree.specs.Due.{due_of}
+use Rattle.slp_tree.proofs.Common.{◌≡◌, ◌++◌, Some, due_of}
 use Rattle.slp_tree.proofs.DueLemmas.{due_from}
 use Rattle.slp_tree.proofs.due.push_due.Given as goal
 

@@ -1,5 +1,4 @@
-use Rattle.std.proofs.Common.{◌≡◌, ◌++◌, length, drop}
-use Rattle.slp_tree.specs.Due.{due_of_all}
+use Rattle.slp_tree.proofs.Common.{◌≡◌, ◌++◌, length, drop, due_of_all}
 use Rattle.slp_tree.proofs.DueLemmas.{count_states}
 use Rattle.slp_tree.proofs.due.ranked_due.Given as goal
 

@@ -1,7 +1,4 @@
-use Rattle.std.proofs.Common.{rules}
-use Rattle.std.specs.Ordering.{is_lt}
-use Rattle.std.proofs.lemmas.List.Sorted.{answers_always, ranks_by}
-use Rattle.slp_tree.specs.Due.{due_order}
+use Rattle.slp_tree.proofs.Common.{rules, is_lt, answers_always, ranks_by, due_order}
 use Rattle.slp_tree.specs.declared.due.Ranked.{Ranked}
 use Rattle.slp_tree.proofs.DueLemmas.{due_order_total, due_sorted}
 use Rattle.slp_tree.proofs.due.sort.Goals as goal

@@ -1,4 +1,4 @@
-use Rattle.std.proofs.Common.{◌∙◌, sym, ap, Some}
+use Rattle.slp_tree.proofs.Common.{◌∙◌, sym, ap, Some}
 use Rattle.slp_tree.proofs.ListLemmas.{named_at, unnamed_at}
 use Rattle.slp_tree.proofs.named.find.Goals as goal
 

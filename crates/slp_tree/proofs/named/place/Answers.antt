@@ -1,4 +1,4 @@
-use Rattle.std.proofs.Common.{rules}
+use Rattle.slp_tree.proofs.Common.{rules}
 use Rattle.std.proofs.lemmas.Fn.{always_returns_same}
 use Rattle.slp_tree.proofs.ListLemmas.{rank, place_of}
 use Rattle.slp_tree.proofs.named.place.Goals as goal

@@ -1,5 +1,4 @@
-use Rattle.std.proofs.Common.{◌∙◌, sym, subst}
-use Rattle.slp_tree.specs.Lists.{AreByName}
+use Rattle.slp_tree.proofs.Common.{◌∙◌, sym, subst, AreByName}
 use Rattle.slp_tree.proofs.ListLemmas.{put_at, inserted_at, rising_put, stands_as, lacks_as}
 use Rattle.slp_tree.proofs.named.put.Goals as goal
 

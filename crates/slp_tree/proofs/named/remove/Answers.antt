@@ -1,5 +1,4 @@
-use Rattle.std.proofs.Common.{◌∙◌, sym, subst, refl}
-use Rattle.slp_tree.specs.Lists.{AreByName}
+use Rattle.slp_tree.proofs.Common.{◌∙◌, sym, subst, refl, AreByName}
 use Rattle.slp_tree.proofs.ListLemmas.{without_at, without_lacking, rising_without, stands_as, lacks_as}
 use Rattle.slp_tree.proofs.named.remove.Goals as goal
 

@@ -1,4 +1,4 @@
-use Rattle.std.proofs.Common.{◌≡◌, ◌+◌, length, take}
+use Rattle.slp_tree.proofs.Common.{◌≡◌, ◌+◌, length, take}
 use Rattle.slp_tree.proofs.DueLemmas.{count_states}
 use Rattle.slp_tree.proofs.tests.has_a_window_each.Given as goal
 

@@ -1,6 +1,5 @@
-use Rattle.std.proofs.Common.{◌≤◌, ℕ, ◌∙◌, sym, subst, Option, IfSome}
+use Rattle.desk_rules.proofs.Common.{◌≤◌, ℕ, ◌∙◌, sym, subst, Option, IfSome, is_of}
 use Rattle.site_types.specs.Limits.{last_moment}
-use Rattle.desk_rules.specs.DueBackups.{is_of}
 use Rattle.desk_rules.proofs.LastTimeLemmas.{latest_in_time}
 use Rattle.desk_rules.proofs.last_times.LastTimes.get.Goals as goal
 

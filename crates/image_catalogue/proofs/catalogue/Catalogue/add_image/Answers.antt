@@ -1,7 +1,4 @@
-use Rattle.std.proofs.Common.{◌∙◌, ap, length, subst}
-use Rattle.std.specs.Map.{values_of}
-use Rattle.image_catalogue.specs.Counts.{Counts}
-use Rattle.image_catalogue.specs.Images.{used}
+use Rattle.image_catalogue.proofs.Common.{◌∙◌, ap, length, subst, values_of, Counts, used}
 use Rattle.image_catalogue.proofs.ImageLemmas.{length_with, used_with}
 use Rattle.image_catalogue.proofs.ChangeLemmas.{added_as, counts_added}
 use Rattle.image_catalogue.proofs.catalogue.Catalogue.add_image.Goals as goal

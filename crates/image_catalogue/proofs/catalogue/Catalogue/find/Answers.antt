@@ -1,5 +1,4 @@
-use Rattle.std.proofs.Common.{◌∙◌, ap}
-use Rattle.image_catalogue.specs.Images.{record_named}
+use Rattle.image_catalogue.proofs.Common.{◌∙◌, ap, record_named}
 use Rattle.image_catalogue.proofs.EntryLemmas.{found}
 use Rattle.image_catalogue.proofs.catalogue.Catalogue.find.Goals as goal
 

@@ -1,5 +1,4 @@
-use Rattle.std.proofs.Common.{subst}
-use Rattle.image_catalogue.specs.Images.{AreById}
+use Rattle.image_catalogue.proofs.Common.{subst, AreById}
 use Rattle.image_catalogue.proofs.EntryLemmas.{in_order}
 use Rattle.image_catalogue.proofs.catalogue.Catalogue.iter.Goals as goal
 

@@ -1,5 +1,4 @@
-use Rattle.std.proofs.Common.{sym}
-use Rattle.std.specs.Map.{values_of}
+use Rattle.image_catalogue.proofs.Common.{sym, values_of}
 use Rattle.image_catalogue.proofs.ImageLemmas.{undone_as}
 use Rattle.image_catalogue.proofs.EntryLemmas.{at_id}
 use Rattle.image_catalogue.proofs.ChangeLemmas.{removed_as, counted_as, counts_left}

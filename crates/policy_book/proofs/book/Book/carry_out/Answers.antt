@@ -1,10 +1,8 @@
-use Rattle.std.proofs.Common.{◌≡◌, ◌∙◌, ap, sym, refl, subst}
+use Rattle.policy_book.proofs.Common.{◌≡◌, ◌∙◌, List, ap, sym, refl, subst, Book, unit_name, unit_with, unit_changed, changed_in_place, stands_as}
+use Rattle.site_types.specs.declared.unit.Unit.{Unit as StorageUnit}
 use Rattle.policy_book.specs.declared.staged.StagedChange.{StagedChange}
-use Rattle.policy_book.specs.Book.{Book, unit_name}
-use Rattle.policy_book.specs.Changes.{unit_with, unit_changed}
 use Rattle.policy_book.specs.Staged.{policy_after, staged_after, IsReady}
-use Rattle.slp_tree.proofs.ListLemmas.{changed_in_place, stands_as}
-use Rattle.policy_book.proofs.BookLemmas.{seen, with_units, policy_in_place}
+use Rattle.policy_book.proofs.BookLemmas.{seen, policy_in_place}
 use Rattle.policy_book.proofs.book.Book.carry_out.Goals as goal
 
 pub returns-in-ChangeUnit-clause-after : goal.returns-in-ChangeUnit-clause-after
@@ -14,7 +12,7 @@ returns-in-ChangeUnit-clause-after c =
     let it = c.in-ChangeUnit in
     let name = it.name.now in
     let listed : now.units ≡ items = ap (λ (b : Book). b.units) (sym c.self.view_is) in
-    ap (with_units (seen c.self.inside))
+    ap (λ (units : List StorageUnit). record (seen c.self.inside) { units = units })
     (changed_in_place unit_name items name (unit_with it.change) it.at c.index_mut.result.now c.change_unit.new.unit c.self.invariant.units
     (stands_as unit_name items now.units name name it.at listed refl (subst (IsReady now) it.is c.requires)) c.index_mut.ensures.value c.change_unit.ensures)
     ∙ ap (unit_changed name it.change) c.self.view_is

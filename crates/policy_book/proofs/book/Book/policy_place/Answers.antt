@@ -1,5 +1,4 @@
-use Rattle.policy_book.specs.Book.{policy_name}
-use Rattle.slp_tree.proofs.ListLemmas.{named_if}
+use Rattle.policy_book.proofs.Common.{policy_name, named_if}
 use Rattle.policy_book.proofs.book.Book.policy_place.Goals as goal
 
 pub returns-clause-named : goal.returns-clause-named

@@ -1,9 +1,7 @@
-use Rattle.std.proofs.Common.{◌≡◌, ◌∙◌, ap, rules, List, ℕ}
-use Rattle.std.specs.Prelude.{filter, not}
+use Rattle.policy_book.proofs.Common.{◌≡◌, ◌∙◌, ap, rules, List, ℕ, filter, not, Policy}
 use Rattle.std.specs.Str.{bytes_eq}
 use Rattle.std.proofs.lemmas.Fn.{filter_same}
 use Rattle.policy_book.specs.declared.policy.Policy.TheInside.{Inside}
-use Rattle.policy_book.specs.Book.{Policy}
 use Rattle.policy_book.proofs.policy.Policy.unselect.Goals as goal
 
 abbrev with_selections : Policy → List (List ℕ) → Policy

@@ -1,4 +1,4 @@
-use Rattle.std.proofs.Common.{rules, ◌≡◌, ◌∙◌, ap, ℕ, List, length, take, take_at}
+use Rattle.pool_journal.proofs.Common.{rules, ◌≡◌, ◌∙◌, ap, ℕ, List, length, take, take_at}
 use Rattle.pool_journal.proofs.ImageBytes.{read_there}
 use Rattle.pool_journal.proofs.journal.Journal.read_bytes.Goals as goal
 

@@ -1,4 +1,4 @@
-use Rattle.std.proofs.Common.{◌<◌, ◌^◌, rules, ◌∙◌, sym, length}
+use Rattle.pool_journal.proofs.Common.{◌<◌, ◌^◌, rules, ◌∙◌, sym, length}
 use Rattle.pool_journal.proofs.Opening.{settled, foreign_at, opened_as}
 use Rattle.pool_journal.proofs.journal.Journal.read_file.Goals as goal
 

@@ -1,7 +1,6 @@
-use Rattle.std.proofs.Common.{arith, ◌≡◌, ◌∙◌, ◌+◌, ◌-◌, ◌<◌, ◌^◌, min, ℕ, length, ap, sym}
+use Rattle.pool_journal.proofs.Common.{arith, ◌≡◌, ◌∙◌, ◌+◌, ◌-◌, ◌<◌, ◌^◌, min, ℕ, length, ap, sym, body_of, staged_record}
 use Rattle.pool_journal.proofs.Append.{first_stop, second_stop, done}
 use Rattle.pool_journal.proofs.Bytes.{length_staged}
-use Rattle.pool_journal.specs.Entries.{body_of, staged_record}
 use Rattle.pool_journal.proofs.journal.Journal.write.Goals as goal
 
 pub returns-in_err-write_durably-clause-stops : goal.returns-in_err-write_durably-clause-stops

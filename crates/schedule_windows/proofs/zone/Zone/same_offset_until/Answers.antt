@@ -1,4 +1,4 @@
-use Rattle.std.proofs.Common.{◌∙◌, ap, sym, subst}
+use Rattle.schedule_windows.proofs.Common.{◌∙◌, ap, sym, subst}
 use Rattle.schedule_windows.specs.Sources.{zone_of, IsRead}
 use Rattle.schedule_windows.proofs.Rules.{offset_at-rule, offset_at-fixed}
 use Rattle.schedule_windows.proofs.zone.Zone.same_offset_until.Goals as goal

@@ -1,8 +1,6 @@
-use Rattle.std.proofs.Common.{◌∙◌, ap, sym, subst, w32, arith, FitsSigned}
-use Rattle.std.proofs.lemmas.Int.{to_z-of_z}
-use Rattle.jiff_core.proofs.SignedLemmas.{signed_arith}
+use Rattle.schedule_windows.proofs.Common.{◌∙◌, ap, sym, subst, w32, arith, FitsSigned, to_z-of_z, signed_arith, ZoneOf}
 use Rattle.schedule_windows.specs.Sources.{zone_of, IsRead}
-use Rattle.schedule_windows.specs.Zones.{ZoneOf, offset_at}
+use Rattle.schedule_windows.specs.Zones.{offset_at}
 use Rattle.schedule_windows.proofs.Rules.{offset_at-rule, offset_at-fixed}
 use Rattle.schedule_windows.proofs.zone.Zone.seconds_at.Goals as goal
 

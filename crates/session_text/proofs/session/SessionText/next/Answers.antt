@@ -1,5 +1,4 @@
-use Rattle.std.proofs.Common.{rules, ◌≡◌, ◌++◌, ℕ, List}
-use Rattle.session_text.specs.Session.{IsCut}
+use Rattle.session_text.proofs.Common.{rules, ◌≡◌, ◌++◌, ℕ, List, IsCut}
 use Rattle.session_text.proofs.InTurn.{is_next, is_whole, is_in_turn}
 use Rattle.session_text.proofs.session.SessionText.next.Goals as goal
 

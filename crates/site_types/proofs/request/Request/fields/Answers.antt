@@ -1,4 +1,4 @@
-use Rattle.std.proofs.Common.{arith, inl, inr}
+use Rattle.site_types.proofs.Common.{arith, inl, inr}
 use Rattle.site_types.proofs.LineLemmas.{appends}
 use Rattle.site_types.proofs.request.Request.fields.Goals as goal
 

@@ -1,4 +1,4 @@
-use Rattle.std.proofs.Common.{rules}
+use Rattle.site_types.proofs.Common.{rules}
 use Rattle.site_types.proofs.Rereading.{formed_so}
 use Rattle.site_types.proofs.request.Request.read.Goals as goal
 

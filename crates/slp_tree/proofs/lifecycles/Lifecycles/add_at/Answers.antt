@@ -1,6 +1,5 @@
-use Rattle.std.proofs.Common.{◌<◌, ℕ, length, refl, subst}
+use Rattle.slp_tree.proofs.Common.{◌<◌, ℕ, length, refl, subst, ForSome}
 use Rattle.std.specs.Prelude.{Option}
-use Rattle.std.specs.Option.{ForSome}
 use Rattle.slp_tree.proofs.LifecycleLemmas.{latest_read, added_in_place}
 use Rattle.slp_tree.proofs.lifecycles.Lifecycles.add_at.Goals as goal
 

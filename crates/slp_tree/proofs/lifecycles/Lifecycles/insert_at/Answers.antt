@@ -1,5 +1,4 @@
-use Rattle.std.proofs.Common.{◌≡◌, ◌<◌, ◌∷◌, [], length, ◌∙◌, sym, ap, subst, arith}
-use Rattle.slp_tree.specs.Lists.{AreByName}
+use Rattle.slp_tree.proofs.Common.{◌≡◌, ◌<◌, ◌∷◌, [], length, ◌∙◌, sym, ap, subst, arith, AreByName}
 use Rattle.slp_tree.specs.Lifecycles.{lifecycle_name, with_further, lifecycle_named}
 use Rattle.slp_tree.proofs.ListLemmas.{rising_put}
 use Rattle.slp_tree.proofs.LifecycleLemmas.{inserted_is, first_added}

@@ -1,9 +1,8 @@
-use Rattle.std.proofs.Common.{◌≡◌, ◌∙◌, length, true, sym, rules, tests, arith}
+use Rattle.slp_tree.proofs.Common.{◌≡◌, ◌∙◌, length, true, sym, rules, tests, arith, completed, is_child, waits}
 use Rattle.std.proofs.lemmas.Iterator.{YieldsList-from_range}
 use Rattle.std.proofs.lemmas.Iterator.Adapters.{option_map_id}
 use Rattle.std.proofs.lemmas.Iterator.Consumers.{YieldsList-from_filter}
 use Rattle.std.proofs.lemmas.Iterator.Search.{find_from_yields_List}
-use Rattle.slp_tree.specs.Trees.{completed, is_child, waits}
 use Rattle.slp_tree.proofs.slp.Slp.needed.Goals as goal
 
 pub returns : goal.returns

@@ -1,6 +1,6 @@
-// Reading values that plus signs join.
-ghost use Rattle.std.specs.Prelude.{◌≡◌, IfOk, ℕ, List, Option, map};
-ghost use Rattle.std.specs.List.{slice_split};
+// Values that plus signs join in a word.
+ghost use Rattle.std.specs.Prelude.{◌≡◌, ◌++◌, IfOk, OnOk, ℕ, List, Option, map};
+ghost use Rattle.std.specs.List.{join_with_byte, slice_split};
 ghost use Rattle.site_types.specs.Joined.{each_of, is_plus, joined_of};
 
 use crate::{ListOf, NoMemory};
@@ -20,6 +20,7 @@ fn parts(alloc: Global, text: &[u8]) -> Result<Vec<&[u8]>, NoMemory>
     text.split(|byte| *byte == b'+').collect(alloc)
 }
 
+#[tactic(auto, using(crate::proofs::JoinedLemmas::one_read, crate::proofs::JoinedLemmas::one_refused))]
 fn read_each<T: JoinedItem>(alloc: Global, texts: &[&[u8]]) -> Result<Option<ListOf<T>>, NoMemory>
     ensures { IfOk result (λ o. o ≡ each_of T.spelled (map (λ text. text.now) texts.now)) }
 {
@@ -46,4 +47,26 @@ pub fn read_joined<T: JoinedItem>(
         return Ok(None);
     }
     read_each(alloc, &parts)
+}
+
+// What is written in a word.
+pub trait Written {
+    ghost written: { Self → List ℕ };
+
+    fn push_to(&self, text: &mut Vec<u8>) -> Result<(), NoMemory>
+        ensures { OnOk result (text.new.items ≡ text.old.items ++ written self.now) };
+}
+
+pub fn push_joined<T: Written>(text: &mut Vec<u8>, values: &[T]) -> Result<(), NoMemory>
+    ensures { OnOk result (text.new.items ≡ text.old.items ++ join_with_byte 43 (map T.written values.now)) }
+{
+    let Some((first, rest)) = values.split_first() else {
+        return Ok(());
+    };
+    first.push_to(text)?;
+    for value in rest {
+        text.push(b'+')?;
+        value.push_to(text)?;
+    }
+    Ok(())
 }

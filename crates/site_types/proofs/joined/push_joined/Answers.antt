@@ -1,6 +1,6 @@
-use Rattle.std.proofs.Common.{rules, arith, ◌≡◌, ◌∷◌}
+use Rattle.site_types.proofs.Common.{rules, arith, ◌≡◌, ◌∷◌}
 use Rattle.site_types.proofs.JoinedTextLemmas.{all_joined}
-use Rattle.site_types.proofs.joined_text.push_joined.Goals as goal
+use Rattle.site_types.proofs.joined.push_joined.Goals as goal
 
 pub returns : goal.returns
 returns g c =
