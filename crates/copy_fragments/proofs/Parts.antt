@@ -55,9 +55,9 @@ joined digest_of pool image copy at a b first second =
           (meets_one copy at (length a) (length b) index (subst (λ (k : ℕ). Meets copy at k index) long meets));
       bytes_are = λ bytes spells.
           let front : a ≡ take (length a) (drop at bytes) =
-              first.bytes_are bytes (record { length_is = spells.length_is; pieces_are = λ index slot meets slot_is. spells.pieces_are index slot (omega (arith, meets, long)) slot_is }) in
+          first.bytes_are bytes (record { length_is = spells.length_is; pieces_are = λ index slot meets slot_is. spells.pieces_are index slot (omega (arith, meets, long)) slot_is }) in
           let behind : b ≡ take (length b) (drop (at + length a) bytes) =
-              second.bytes_are bytes (record { length_is = spells.length_is; pieces_are = λ index slot meets slot_is. spells.pieces_are index slot (omega (arith, meets, long)) slot_is }) in
+          second.bytes_are bytes (record { length_is = spells.length_is; pieces_are = λ index slot meets slot_is. spells.pieces_are index slot (omega (arith, meets, long)) slot_is }) in
           (λ i. front i ++ behind i)
           ∙ ap (λ (l : List ℕ). take (length a) (drop at bytes) ++ take (length b) l) (sym (drop-drop (length a) at bytes))
           ∙ sym (take-add (length a) (length b) (drop at bytes))

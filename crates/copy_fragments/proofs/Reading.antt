@@ -70,9 +70,9 @@ has_undamaged digest_of pool image slot piece (trouble.Damaged recorded found) h
     let same : has.what ≡ damage.what = cc (has.is_held, damage.is_held) in
     let bytes : bytes_in pool image slot damage.what.length ≡ piece = ap (λ (x : Slot). bytes_in pool image slot x.length) (sym same) ∙ has.bytes_are in
     absurd (⊎_elim
-        (λ few. omega (arith, few, ap length bytes, has.length_is, ap (λ (x : Slot). x.length) same))
-        (λ other. other (damage.found_is ∙ ap digest_of bytes ∙ sym has.digest_is ∙ ap (λ (x : Slot). x.digest) same ∙ sym damage.recorded_is))
-        damage.differ)
+    (λ few. omega (arith, few, ap length bytes, has.length_is, ap (λ (x : Slot). x.length) same))
+    (λ other. other (damage.found_is ∙ ap digest_of bytes ∙ sym has.digest_is ∙ ap (λ (x : Slot). x.digest) same ∙ sym damage.recorded_is))
+    damage.differ)
 
 pub placed_result : (digest_of : List ℕ → List ℕ) (pool : PoolState) (image : Image) (copy : Copy) (at n : ℕ) (into bytes : List ℕ) (r : Result ℕ ReadTrouble) → 1 ≤ copy.size → IsPlaced digest_of pool image copy bytes
     → IfOk r (λ k. k ≡ n) → n ≤ length into → IfOk r (λ k. IsPart digest_of pool image copy at (take k into)) → IfErr r (λ t. SomePiece pool copy at n (λ slot _. TroubleHolds digest_of pool image slot t))

@@ -9,7 +9,7 @@ use Rattle.copy_fragments.proofs.copy_map.CopyMap.read_at.Goals as goal
 pub returns-clause-told : goal.returns-clause-told
 returns-clause-told g c = λ told.
     let count : length (take c.min-count.result c.args.into.now) ≡ part_length c.args.self.now c.args.at (length c.args.into.now) =
-        omega (arith, length-take c.min-count.result c.args.into.now, c.min-count.ensures, c.saturating_sub.ensures, ap (λ (x : Copy). x.length) c.self.view_is) in
+    omega (arith, length-take c.min-count.result c.args.into.now, c.min-count.ensures, c.saturating_sub.ensures, ap (λ (x : Copy). x.length) c.self.view_is) in
     subst (λ (k : ℕ). IfErr c.fill.result (λ t. SomePiece c.args.pool.now c.args.self.now c.args.at k (λ slot _. TroubleHolds g.F.Fingerprint.digest_of c.args.pool.now (g.V.Vault.disk c.args.vault.now).seen slot t))) count (c.fill.ensures.told told)
 
 pub returns-clause-placed : goal.returns-clause-placed

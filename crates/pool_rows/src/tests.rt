@@ -1,0 +1,159 @@
+use crate::trial::{SIZE, Trial, Zeros};
+use copy_fragments::{CopyMap, piece_count};
+use segment_pool::{ReadTrouble, Sha256Print, cut};
+use std::alloc::Global;
+use std::test::*;
+
+const X: &[u8] = b"xxxxxxxxxxxxxxxx";
+
+const Y: &[u8] = b"yyyyyyyyyyyyyyyy";
+
+// SHA-256 of `hello`, of `world` and of `hell`, as sha256sum prints them.
+const HELLO: [u8; 32] = [
+    0x2c, 0xf2, 0x4d, 0xba, 0x5f, 0xb0, 0xa3, 0x0e, 0x26, 0xe8, 0x3b, 0x2a, 0xc5, 0xb9, 0xe2, 0x9e,
+    0x1b, 0x16, 0x1e, 0x5c, 0x1f, 0xa7, 0x42, 0x5e, 0x73, 0x04, 0x33, 0x62, 0x93, 0x8b, 0x98, 0x24,
+];
+
+const WORLD: [u8; 32] = [
+    0x48, 0x6e, 0xa4, 0x62, 0x24, 0xd1, 0xbb, 0x4f, 0xb6, 0x80, 0xf3, 0x4f, 0x7c, 0x9a, 0xd9, 0x6a,
+    0x8f, 0x24, 0xec, 0x88, 0xbe, 0x73, 0xea, 0x8e, 0x5a, 0x6c, 0x65, 0x26, 0x0e, 0x9c, 0xb8, 0xa7,
+];
+
+const HELL: [u8; 32] = [
+    0x0e, 0xbd, 0xc3, 0x31, 0x7b, 0x75, 0x83, 0x9f, 0x64, 0x33, 0x87, 0xd7, 0x83, 0x53, 0x5a, 0xdc,
+    0x36, 0x0c, 0xa0, 0x1f, 0x33, 0xc7, 0x5f, 0x7c, 0x1e, 0x73, 0x73, 0xad, 0xcd, 0x67, 0x5c, 0x0b,
+];
+
+#[test]
+fn equal_digests_are_told_apart_by_their_bytes(rt: HostRuntime) -> Result<(), Fail> {
+    let mut trial = Trial::new(rt.alloc(), b"", Zeros)?;
+    assert_eq!(rt; trial.place(rt.alloc(), &Zeros, X), Some(0));
+    assert_eq!(rt; trial.place(rt.alloc(), &Zeros, Y), Some(1));
+    assert_eq!(rt; trial.place(rt.alloc(), &Zeros, X), Some(0));
+    assert!(rt; trial.reads_as(0, X) && trial.reads_as(1, Y));
+    Ok(())
+}
+
+#[test]
+fn a_freed_slot_is_taken_again(rt: HostRuntime) -> Result<(), Fail> {
+    let mut trial = Trial::new(rt.alloc(), b"", Sha256Print)?;
+    assert_eq!(rt; trial.place_and_unpin(rt.alloc(), &Sha256Print, X), Some(0));
+    assert!(rt; trial.pool.held(0).is_none());
+    assert_eq!(rt; trial.place(rt.alloc(), &Sha256Print, Y), Some(0));
+    // This pin is the second, so one is left.
+    assert_eq!(rt; trial.place_and_unpin(rt.alloc(), &Sha256Print, Y), Some(0));
+    assert!(rt; trial.reads_as(0, Y));
+    assert_eq!(rt; trial.place(rt.alloc(), &Sha256Print, X), Some(1));
+    Ok(())
+}
+
+// The copy of these bytes, whose pieces are placed one after another; a fragment has two.
+fn copy_of(alloc: Global, trial: &mut Trial<Sha256Print>, bytes: &[u8]) -> Result<CopyMap, Fail> {
+    let pieces = cut(alloc, &Sha256Print, bytes, SIZE as u32)?;
+    let mut slots = Vec::new(alloc);
+    for index in 0..64u64 {
+        if let Some((piece, _)) = pieces.piece(index) {
+            slots.push(trial.place(alloc, &Sha256Print, piece).ok_or("a slot")?)?;
+        }
+    }
+    map_of(slots, bytes.len() as u64)
+}
+
+fn map_of(slots: Vec<u32>, bytes: u64) -> Result<CopyMap, Fail> {
+    if slots.len() as u64 != piece_count(bytes, SIZE as u32) {
+        return Err("other pieces".into());
+    }
+    Ok(CopyMap::new(slots, SIZE as u32, 2, bytes))
+}
+
+fn read_at(
+    trial: &mut Trial<Sha256Print>,
+    copy: &CopyMap,
+    at: u64,
+    into: &mut [u8],
+) -> Option<Result<usize, ReadTrouble>> {
+    if !copy.is_held(&trial.pool) {
+        return None;
+    }
+    Some(copy.read_at(&mut trial.pool, &mut trial.machine, at, into))
+}
+
+// Whether a read gives the bytes from there on, as far as there is room, and leaves the rest of the room alone.
+fn reads_from(
+    trial: &mut Trial<Sha256Print>,
+    copy: &CopyMap,
+    bytes: &[u8],
+    at: usize,
+    room: usize,
+) -> bool {
+    let mut buffer = [0xeeu8; 64];
+    let rest = bytes.get(at..).unwrap_or(b"");
+    let Some(into) = buffer.get_mut(..room) else {
+        return false;
+    };
+    match read_at(trial, copy, at as u64, into) {
+        Some(Ok(count)) => {
+            count == rest.len().min(room)
+                && buffer.starts_with(&rest[..count])
+                && buffer[count..].iter().all(|byte| *byte == 0xee)
+        }
+        _ => false,
+    }
+}
+
+#[test]
+fn copies_are_read_from_every_offset(rt: HostRuntime) -> Result<(), Fail> {
+    let bytes = b"abcdefghijklmnopqrstuvwxyzABCDEFGHIJKLMN";
+    for length in 0..=bytes.len() {
+        let mut trial = Trial::new(rt.alloc(), b"", Sha256Print)?;
+        let copy = copy_of(rt.alloc(), &mut trial, &bytes[..length])?;
+        for at in 0..=length + 1 {
+            for room in [0, 1, 15, 16, 17, 41] {
+                assert!(rt;
+                    reads_from(&mut trial, &copy, &bytes[..length], at, room),
+                    "{length}, {room} from {at}"
+                );
+            }
+        }
+    }
+    Ok(())
+}
+
+#[test]
+fn fragments_are_runs_of_pieces(rt: HostRuntime) -> Result<(), Fail> {
+    let mut trial = Trial::new(rt.alloc(), b"", Sha256Print)?;
+    let copy = copy_of(
+        rt.alloc(),
+        &mut trial,
+        b"abcdefghijklmnopqrstuvwxyzABCDEFGHIJKLMN",
+    )?;
+    let empty = copy_of(rt.alloc(), &mut trial, b"")?;
+    assert_eq!(rt; copy.slots(), [0, 1, 2].as_slice());
+    assert_eq!(rt; copy.length(), 40);
+    assert_eq!(rt; copy.fragment_length(0), Some(32));
+    assert_eq!(rt; copy.fragment_length(1), Some(8));
+    assert_eq!(rt; copy.fragment_length(2), None);
+    assert_eq!(rt; copy.fragment_length(u32::MAX), None);
+    assert_eq!(rt; empty.fragment_length(0), None);
+    Ok(())
+}
+
+// The digests of a damaged piece `hello`, in a file that has these bytes in its place.
+fn found_in(alloc: Global, bytes: &[u8]) -> Result<Option<([u8; 32], [u8; 32])>, Fail> {
+    let mut trial = Trial::new(alloc, bytes, Sha256Print)?;
+    if !trial.adopt(alloc, 0, 5, HELLO) {
+        return Err("not adopted".into());
+    }
+    Ok(match trial.read(0, &mut [0u8; 5]) {
+        Some(Err(ReadTrouble::Damaged { recorded, found })) => Some((recorded, found)),
+        _ => None,
+    })
+}
+
+#[test]
+fn damage_is_told_by_both_digests(rt: HostRuntime) -> Result<(), Fail> {
+    assert_eq!(rt; found_in(rt.alloc(), b"world")?, Some((HELLO, WORLD)));
+    assert_eq!(rt; found_in(rt.alloc(), b"hell")?, Some((HELLO, HELL)));
+    assert_eq!(rt; found_in(rt.alloc(), b"hello")?, None);
+    Ok(())
+}
