@@ -10,8 +10,6 @@ use vault_disk::{FolderMachine, StandardSource, SystemClock, ToldInput};
 
 const BAD_REQUEST: u8 = 2;
 
-const NOT_A_VAULT: u8 = 22;
-
 fn main(rt: HostRuntime) -> ExitCode {
     // A standard stream that the caller closed leaves its number to the next file that is opened, which must be none of the vault's.
     let _held = [
@@ -32,9 +30,7 @@ fn main(rt: HostRuntime) -> ExitCode {
     };
     let _program = arguments.next();
     let Some(folder) = arguments.next() else {
-        if let Ok(usage) = shell_texts::usage(rt.alloc(), "a folder and a request are missing") {
-            let _ = eprint!(rt; "{usage}");
-        }
+        shell_texts::tell_usage(&rt, "a folder and a request are missing");
         return ExitCode::from(BAD_REQUEST);
     };
     let path = String::from_str(rt.alloc(), folder.as_str());
@@ -43,21 +39,12 @@ fn main(rt: HostRuntime) -> ExitCode {
     };
     let reader = rt.reader();
     let is_awaited = reader.is_terminal() && !shell_texts::is_session(&words);
-    let mut input = ToldInput::new(&rt, reader, is_awaited);
-    if shell_texts::takes_site_file(&words) {
-        input.keep();
-    }
+    let is_kept = shell_texts::takes_site_file(&words);
+    let mut input = ToldInput::new(&rt, reader, is_awaited, is_kept);
     let mut machine = FolderMachine::new(&rt, path);
     let mut source = StandardSource::new(&mut input);
     let mut clock = SystemClock::new(&rt);
     let status = bp_cli::run(rt.alloc(), &words, &mut machine, &mut source, &mut clock);
-    if status == NOT_A_VAULT {
-        let _ = eprintln!(rt; "bpdesk: {folder}/0.nbv is no vault; the file is left as it is");
-    }
-    if status == BAD_REQUEST
-        && let Ok(Some(text)) = shell_texts::explain(rt.alloc(), &words, input.kept())
-    {
-        let _ = eprint!(rt; "{text}");
-    }
+    shell_texts::tell(&rt, status, folder.as_str(), &words, input.kept());
     ExitCode::from(status)
 }

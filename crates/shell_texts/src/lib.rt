@@ -7,6 +7,8 @@ mod lists;
 mod mistakes;
 mod site_file;
 mod table;
+mod telling;
 
 pub use arguments::texts;
-pub use mistakes::{explain, is_session, takes_site_file, usage};
+pub use mistakes::{is_session, takes_site_file};
+pub use telling::{tell, tell_usage};

@@ -66,7 +66,8 @@ impl<R: Files<File = File> + Eprint + AllocGlobal + Drop> Folder<R> {
         }
         if self.files.is_empty() {
             self.is_broken = true;
-            make_folder(&self.rt, self.path.as_str())?;
+            let made = make_folder(&self.rt, self.path.as_str());
+            told(&self.rt, Act::Make, Place::Folder(self.path.as_str()), made)?;
             let file = self.told(Act::Open, 0, self.open(0, true))?;
             self.told(Act::Lock, 0, file.try_lock().map_err(io::Error::from))?;
             self.is_new = file.metadata()?.len() == 0;
@@ -125,13 +126,7 @@ impl<R: Files<File = File> + Eprint + AllocGlobal + Drop> Folder<R> {
             let synced = self.files[place].1.sync_all();
             self.told(Act::Sync, number, synced)?;
             if !self.is_settled {
-                let folder = Place::Folder(self.path.as_str());
-                told(
-                    &self.rt,
-                    Act::Sync,
-                    folder,
-                    sync_folder(&self.rt, self.path.as_str()),
-                )?;
+                self.told(Act::Sync, number, sync_folder(&self.rt, self.path.as_str()))?;
                 self.is_settled = true;
             }
             self.is_broken = false;
@@ -243,22 +238,17 @@ impl<R: Files<File = File> + Print + Eprint + AllocGlobal + Drop> Machine for Fo
 
 // Makes a folder where it is missing, and those above it. The one above each that is made is synced, so that none is lost
 // with the machine.
-fn make_folder(
-    rt: &(impl Files<File = File> + Eprint + AllocGlobal),
-    path: &str,
-) -> io::Result<()> {
+fn make_folder(rt: &(impl Files<File = File> + AllocGlobal), path: &str) -> io::Result<()> {
     if path.is_empty() {
-        let fault = Err(io::Error::from(io::ErrorKind::NotFound));
-        return told(rt, Act::Make, Place::Folder(path), fault);
+        return Err(io::Error::from(io::ErrorKind::NotFound));
     }
     for (folder, above) in folders_of(rt.alloc(), path)? {
         if fs::metadata(rt, folder).is_err() {
-            let made = match DirBuilder::new().mode(FOLDER_MODE).create(rt, folder) {
+            match DirBuilder::new().mode(FOLDER_MODE).create(rt, folder) {
                 // Another process may have made it since.
-                Err(fault) if fault.kind() != io::ErrorKind::AlreadyExists => Err(fault),
-                _ => sync_folder(rt, above),
-            };
-            told(rt, Act::Make, Place::Folder(folder), made)?;
+                Err(fault) if fault.kind() != io::ErrorKind::AlreadyExists => return Err(fault),
+                _ => sync_folder(rt, above)?,
+            }
         }
     }
     Ok(())

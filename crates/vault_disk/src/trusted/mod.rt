@@ -3,7 +3,9 @@
 mod folder_machine;
 mod standard_source;
 mod system_clock;
+mod told_input;
 
 pub use folder_machine::FolderMachine;
 pub use standard_source::StandardSource;
 pub use system_clock::SystemClock;
+pub use told_input::ToldInput;
