@@ -1,5 +1,5 @@
 -- Entries, as they are spelled in a record's body, and as they are read from it.
-use Rattle.std.specs.Prelude.{◌≡◌, ◌≢◌, ℕ, ◌+◌, ◌^◌, ◌<◌, ◌==◌, if◌then◌else◌, true, List, [], ◌∷◌, ◌++◌, length, Option, Some, None, option_map, option_and_then, Result, Ok, Err}
+use Rattle.std.specs.Prelude.{◌≡◌, ◌≢◌, ℕ, ◌+◌, ◌^◌, ◌<◌, ◌≤◌, ◌==◌, if◌then◌else◌, true, List, [], ◌∷◌, ◌++◌, length, Option, Some, None, option_map, option_and_then, Result, Ok, Err}
 use Rattle.std.specs.Int.{w16, w32, w64, to_be_bytes}
 use Rattle.site_types.specs.Names.{is_name}
 pub use Rattle.site_types.specs.declared.id.BackupId.{BackupId}
@@ -148,6 +148,11 @@ pub record ImageFits (image : WholeImage) : Type 0 where
 abbrev pub IsSpellable : Entry → Type 0
 IsSpellable (entry.Settings lines) = Unit {0}
 IsSpellable (entry.WholeImage image) = ImageFits image
+
+-- the fields of an image are short: their numbers and lengths take 44 bytes, and four names at most 64 each
+abbrev pub HasShortFields : Entry → Type 0
+HasShortFields (entry.Settings lines) = Unit {0}
+HasShortFields (entry.WholeImage image) = length (spelled_entry (entry.WholeImage image)) ≤ 300
 
 -- these bytes are a record's that can be written, and that is read as it is spelled
 pub record IsStaged (r : Record) (bytes : List ℕ) : Type 0 where

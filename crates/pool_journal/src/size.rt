@@ -1,7 +1,7 @@
 // How much an entry takes in its record.
-ghost use Rattle.std.specs.Prelude.{◌≡◌, ◌+◌, ◌-◌, ◌^◌, ◌<◌, min, length};
+ghost use Rattle.std.specs.Prelude.{◌≡◌, ◌+◌, ◌-◌, ◌^◌, ◌<◌, ◌≤◌, min, length};
 ghost use Rattle.pool_journal.specs.Fields.{strings};
-ghost use Rattle.pool_journal.specs.Entries.{spelled_entry, spelled_image};
+ghost use Rattle.pool_journal.specs.Entries.{spelled_entry, spelled_image, HasShortFields};
 
 use crate::entry::{Entry, WholeImage};
 use site_types::Text;
@@ -10,7 +10,8 @@ use site_types::Text;
 const WITHOUT_NAMES: u64 = 44;
 
 fn image_size(image: &WholeImage) -> u64
-    ensures { result ≡ 1 + length (spelled_image image.now) }
+    ensures size { result ≡ 1 + length (spelled_image image.now) }
+    ensures short { result ≤ 300 }
 {
     let names = image.id.client.bytes().len()
         + image.policy.bytes().len()
@@ -32,9 +33,10 @@ fn strings_size(texts: &[Text]) -> u64
 }
 
 impl Entry {
-    /// The number of bytes that it takes in a record, before the bytes of a whole image.
+    /// The number of bytes that it takes in a record, before the bytes of a whole image. An image takes at most 300.
     pub fn size(&self) -> u64
-        ensures { length (spelled_entry self.now) < 2 ^ 64 → result ≡ length (spelled_entry self.now) }
+        ensures size { length (spelled_entry self.now) < 2 ^ 64 → result ≡ length (spelled_entry self.now) }
+        ensures short { HasShortFields self.now }
     {
         match self {
             Entry::Settings { lines } => strings_size(lines.as_slice()).saturating_add(5),

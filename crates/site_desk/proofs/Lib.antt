@@ -8,6 +8,7 @@ pub mod Loading
 pub mod SiteChanges
 pub mod SizedRecords
 pub mod SoundImages
+pub mod SoundIndex
 pub mod Opening
 pub mod Refusing
 pub mod ReplayLemmas

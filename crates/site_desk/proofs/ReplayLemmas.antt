@@ -40,7 +40,7 @@ pub entry_of : (f : Found) (p : Placed) → placed_of f ≡ p → f.is.entry ≡
 entry_of f p is = ap (λ (q : Placed). q.entry) is
 
 pub length_of : (f : Found) (w : WholeImage) → f.is.entry ≡ entry.WholeImage w → IsRead f.is.entry (length f.is.bytes) → w.length ≡ length f.is.bytes
-length_of f w is has = (subst (λ (e : Entry). IsRead e (length f.is.bytes)) is has).0
+length_of f w is has = subst (λ (e : Entry). IsRead e (length f.is.bytes)) is has
 
 -- Images.
 
@@ -76,13 +76,13 @@ applied_image s f w is = ap (λ (e : Entry). apply_entry s e f.is.bytes) is
 pub image_unfit : (s : State) (f : Found) (w : WholeImage) (fits : Bool) → f.is.entry ≡ entry.WholeImage w → fits ≡ image_fits s w → fits ≡ false → apply s f.is ≡ None
 image_unfit s f w fits is fits_is differs = applied_image s f w is ∙ unfitting (image_fits s w) _ (sym fits_is ∙ differs)
 
-pub image_taken : (records : List Found) (images : List Image) (stored : List Stored) (f : Found) (w : WholeImage) (extent : Extent) (taken : ImageRecord) (fits : Bool) (old new : Index) → Contains records f → f.is.entry ≡ entry.WholeImage w → w.length ≡ length f.is.bytes → extent.from ≡ f.from → extent.length ≡ length f.is.bytes → Remembers records old images
-    → fits ≡ image_fits (built old.site images stored) w → fits ≡ true → record_named w.id old.catalogue ≡ None → taken ≡ whole_entry old.site.book w → new.site ≡ record (old.site) { book = client_sealed taken.id.client taken.id.time old.site.book } → new.catalogue ≡ with_record taken old.catalogue → Adds taken.id extent old.extents new.extents
+pub image_taken : (records : List Found) (images : List Image) (stored : List Stored) (f : Found) (w : WholeImage) (extent : Extent) (taken : ImageRecord) (old new : Index) → Contains records f → f.is.entry ≡ entry.WholeImage w → w.length ≡ length f.is.bytes → extent.from ≡ f.from → extent.length ≡ length f.is.bytes → Remembers records old images
+    → image_fits (built old.site images stored) w ≡ true → record_named w.id old.catalogue ≡ None → taken ≡ whole_entry old.site.book w → new.site ≡ record (old.site) { book = client_sealed taken.id.client taken.id.time old.site.book } → new.catalogue ≡ with_record taken old.catalogue → Adds taken.id extent old.extents new.extents
     → Reaches records (apply (built old.site images stored) f.is) new
-image_taken records images stored f w extent taken fits old new among is length_is from size remembers fits_is good lacking taken_is site catalogue adds = record {
+image_taken records images stored f w extent taken old new among is length_is from size remembers good lacking taken_is site catalogue adds = record {
   images = with_image image images;
   stored = next.stored;
-  made = applied_image before f w is ∙ fitting (image_fits before w) next (sym fits_is ∙ good) ∙ ap (λ (s : Site). Some (built s (with_image image images) next.stored)) (sym site_is);
+  made = applied_image before f w is ∙ fitting (image_fits before w) next good ∙ ap (λ (s : Site). Some (built s (with_image image images) next.stored)) (sym site_is);
   remembers = admitted records records old new images image extent (λ f there. there) remembers lacking length_is
       (record { place = f; among = among; from = from; size = size; bytes = refl; copy = _; copies = refl; number = refl; primary = refl })
       (catalogue ∙ ap (λ (r : ImageRecord). with_record r old.catalogue) taken_is) (subst (λ (r : ImageRecord). Adds r.id extent old.extents new.extents) taken_is adds);

@@ -2,6 +2,8 @@
 use Rattle.std.proofs.Common.{◌≡◌, ◌≢◌, ◌≤◌, ◌<◌, ◌+◌, ◌^◌, ℕ, Bool, true, List, [], ◌∷◌, ◌++◌, length, Some, None, refl, sym, ◌∙◌, ap, subst}
 use Rattle.std.specs.Prelude.{Option, Contains}
 use Rattle.std.proofs.lemmas.List.Elements.{Contains-append_left, Contains-push}
+use Rattle.std.proofs.Math.Bool.{Bool-set}
+use mathlib.Core.Logic.{∥∥₁_elim}
 use Rattle.site_types.specs.Classes.{RequestClass, site_change, site_file, backup, restore, class_of}
 use Rattle.site_types.specs.Limits.{last_moment}
 use Rattle.site_types.specs.declared.answer.Answer.TheVariants.{Done}
@@ -21,35 +23,37 @@ use Rattle.desk_rules.specs.declared.decision.Decision.{Decision}
 use Rattle.desk_rules.specs.declared.decision.JobBody.{JobBody}
 use Rattle.desk_rules.specs.Decisions.{IsDecision, backup_body}
 use Rattle.desk_rules.specs.Seen.{seen}
-use Rattle.site_desk.specs.Stands.{apply}
-use Rattle.site_desk.specs.Index.{built, Remembers}
-use Rattle.site_desk.specs.Replays.{Reaches, IsReached}
+use Rattle.site_desk.specs.Stands.{apply, image_fits}
+use Rattle.site_desk.specs.Index.{built, FitsIndex, Remembers}
+use Rattle.site_desk.specs.SoundIndex.{SoundState}
+use Rattle.site_desk.specs.Replays.{Reaches}
 use Rattle.site_desk.specs.Desk.{whole_of}
 use Rattle.site_desk.specs.Steps.{backs_up, is_backup, IsTaken, IsReady, IsRefused, IsStepRefusal}
 use Rattle.site_desk.specs.declared.extents.Extent.{Extent}
 use Rattle.site_desk.specs.declared.index.Index.{Index}
 use Rattle.site_desk.proofs.IndexLemmas.{remembers_more}
-use Rattle.site_desk.proofs.SoundImages.{backup_applies}
+use Rattle.site_desk.proofs.SoundImages.{backup_applies, taken}
+use Rattle.site_desk.proofs.SoundIndex.{fits_same}
 use Rattle.site_desk.proofs.Deciding.{Decided, decided_on, decided_seen, refused_so, some_so, none_so, passed_so, step_so}
 
 -- the index once an image was taken in whose bytes stand there
-abbrev pub Takes : WholeImage → Extent → Index → Index → Bool → Type 0
-Takes image extent old new done =
+abbrev pub Takes : WholeImage → Extent → Index → Index → Type 0
+Takes image extent old new =
     (records : List Found) (images : List Image) (stored : List Stored) (f : Found) → Contains records f → f.is.entry ≡ entry.WholeImage image → image.length ≡ length f.is.bytes → extent.from ≡ f.from → extent.length ≡ length f.is.bytes → Remembers records old images
-    → IsReached records (apply (built old.site images stored) f.is) new done
+    → Reaches records (apply (built old.site images stored) f.is) new
 
-module _ (records : List Found) (end : ℕ) (images : List Image) (stored : List Stored) (image : WholeImage) (payload : List ℕ) (extent : Extent) (old new : Index) (done : Bool) where
+module _ (records : List Found) (end : ℕ) (images : List Image) (stored : List Stored) (image : WholeImage) (payload : List ℕ) (extent : Extent) (old new : Index) where
   abbrev row : Record
   row = record { entry = entry.WholeImage image; bytes = payload }
 
   abbrev here : Found
   here = record { at = end; from = extent.from; is = row }
 
-  pub taken_in : image.length ≡ length payload → (end + 5 + length (spelled_entry row.entry) < 2 ^ 63 → extent.from ≡ end + 5 + length (spelled_entry row.entry)) → extent.length ≡ length payload → Remembers records old images → Takes image extent old new done → done ≡ true → IsTaken records end (built old.site images stored) row new
-  taken_in length_is from_is size remembers takes is =
+  pub taken_in : image.length ≡ length payload → (end + 5 + length (spelled_entry row.entry) < 2 ^ 63 → extent.from ≡ end + 5 + length (spelled_entry row.entry)) → extent.length ≡ length payload → Remembers records old images → Takes image extent old new → IsTaken records end (built old.site images stored) row new
+  taken_in length_is from_is size remembers takes =
       let among = Contains-push records here in
       let before : Remembers (records ++ here ∷ []) old images = remembers_more records (records ++ here ∷ []) old images (λ f there. Contains-append_left records (here ∷ []) f there) remembers in
-      let reached : Reaches (records ++ here ∷ []) (apply (built old.site images stored) row) new = subst (IsReached (records ++ here ∷ []) (apply (built old.site images stored) row) new) is (takes (records ++ here ∷ []) images stored here among refl length_is refl size before) in
+      let reached : Reaches (records ++ here ∷ []) (apply (built old.site images stored) row) new = takes (records ++ here ∷ []) images stored here among refl length_is refl size before in
       record {
         images = reached.images;
         stored = reached.stored;
@@ -118,6 +122,16 @@ module _ (index : Index) (request : Request) (payload : List ℕ) (size moment :
 
     pub base_here : (whole_of body moment).base ≡ base.None
     base_here = ap (λ (b : JobBody). (whole_of b moment).base) (body_on start seen_so)
+
+    -- it is one that an opening takes, since the index is of a sound state
+    pub fits_here : moment ≤ last_moment → FitsIndex index (whole_of body moment)
+    fits_here early images stored listed = ∥∥₁_elim index.sound (Bool-set _ true) here_too
+      where
+        here_too : SoundState index.site index.catalogue → image_fits (built index.site images stored) (whole_of body moment) ≡ true
+        here_too there =
+            let s : State = built index.site there.images there.stored in
+            let here : IsDecision s request payload moment d = decided_on index request payload size moment d size_is decided there.images there.stored there.listed (λ i among. (there.sound.images i among).size) in
+            fits_same index.site images there.images stored there.stored (whole_of body moment) (listed ∙ sym there.listed) ∙ ap (λ (b : JobBody). image_fits s (whole_of b moment)) (body_on s here) ∙ taken s there.sound asked payload moment early (passed_on s here)
 
     pub ready_here : (records : List Found) (images : List Image) (stored : List Stored) (end : ℕ) (image : WholeImage) (staged line : List ℕ) (new : Index) → Remembers records index images → Sound (built index.site images stored) → moment ≤ last_moment → image ≡ whole_of body moment → d.answer ≡ Done line → IsStaged (record { entry = entry.WholeImage image; bytes = payload }) staged
         → IsTaken records end (built index.site images stored) (record { entry = entry.WholeImage image; bytes = payload }) new → IsReady records end (built index.site images stored) request payload moment staged line new

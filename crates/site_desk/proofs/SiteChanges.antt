@@ -51,7 +51,7 @@ module _ (old new : Index) (images : List Image) (stored : List Stored) (r : Req
   }
 
   module _ (change : SiteChange) (is : d.change ≡ Settings change) where
-    passes : first_refusal (setting_refusals r s) ≡ None
+    pub passes : first_refusal (setting_refusals r s) ≡ None
     passes = none_so s r (site_change r) [] 0 d (class_change r setting) decided (λ nothing. cc (sym is ∙ nothing))
 
     pub change_so : IsSiteChange old.site r change
@@ -63,7 +63,7 @@ module _ (old new : Index) (images : List Image) (stored : List Stored) (r : Req
 
 -- An image that was admitted is taken out again.
 
-none_of : {A : Type 0} (o : Option A) → is_some o ≡ false → o ≡ None
+pub none_of : {A : Type 0} (o : Option A) → is_some o ≡ false → o ≡ None
 none_of None is = refl
 none_of (Some x) is = absurd (cc is)
 

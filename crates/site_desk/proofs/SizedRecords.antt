@@ -1,4 +1,4 @@
--- The records that are read of a journal: each image has as many bytes as its entry tells, and its base is no moment 0.
+-- The records that are read of a journal: each image has as many bytes as its entry tells.
 use Rattle.std.proofs.Common.{◌≡◌, ◌≢◌, ℕ, zero, suc, ◌+◌, List, [], ◌∷◌, length, take, drop, Bool, true, false, Some, None, refl, ◌∙◌, ap, subst, arith}
 use Rattle.std.specs.Prelude.{Option, if◌then◌else◌, ◌==◌, nat_eq, nat_le, nat_lt, option_and_then}
 use Rattle.std.proofs.lemmas.Bool.Decides.{nat_tests}
@@ -26,43 +26,15 @@ settings_sized (Some (lines, [])) r is =
     subst IsSized same tt
 settings_sized (Some (lines, byte ∷ bytes)) r is = absurd (cc is)
 
-none_apart : base.None ≡ base.Time 0 → ⊥
-none_apart is = cc is
-
--- a base that is read is no moment 0, since that spells none
-base_read : (bytes : List ℕ) (b : Base) (rest : List ℕ) → base_field bytes ≡ Some (b, rest) → b ≢ base.Time 0
-base_read bytes b rest is =
-    let code = chained base_coded (long_field bytes) (b, rest) is in
-    at code.0.0 code.0.1 (code.0.0 == 0) refl code.2
-  where
-    at : (n : ℕ) (behind : List ℕ) (c : Bool) → (n == 0) ≡ c → if◌then◌else◌ {A = Option (Base × List ℕ)} c (Some (base.None, behind)) (Some (base.Time n, behind)) ≡ Some (b, rest) → b ≢ base.Time 0
-    at n behind true none made zero_too = none_apart (ap (λ (o : Option (Base × List ℕ)). option_map_or (λ p. p.0) o base.None) made ∙ zero_too)
-    at n behind false some made zero_too =
-        let n_is : n ≡ 0 = ap (λ (o : Option (Base × List ℕ)). option_map_or (λ p. base_code p.0) o 0) made ∙ ap base_code zero_too in
-        absurd (grind (arith, nat_tests, some, n_is))
-
-image_based : (bytes : List ℕ) (w : WholeImage) (rest : List ℕ) → whole_image_field bytes ≡ Some (w, rest) → w.base ≢ base.Time 0
-image_based bytes w rest is =
-    let a = chained _ (id_field bytes) (w, rest) is in
-    let b = chained _ (made_under_field a.0.1) (w, rest) a.2 in
-    let c = chained _ (taken_as_field b.0.1) (w, rest) b.2 in
-    let d = chained _ (version_field c.0.1) (w, rest) c.2 in
-    let e = chained _ (moments_field d.0.1) (w, rest) d.2 in
-    let kind = chained _ (kind_field b.0.1) c.0 c.1 in
-    let taken = chained _ (base_field kind.0.1) c.0 kind.2 in
-    let base_is : taken.0.0 ≡ w.base =
-    ap (λ (o : Option ((Kind × Base) × List ℕ)). option_map_or (λ p. p.0.1) o base.None) taken.2 ∙ ap (λ (o : Option (WholeImage × List ℕ)). option_map_or (λ p. p.0.base) o base.None) e.2 in
-    subst (λ (b : Base). b ≢ base.Time 0) base_is (base_read kind.0.1 taken.0.0 taken.0.1 taken.1)
-
-image_sized : (o : Option (WholeImage × List ℕ)) (r : Record) → ((w : WholeImage) (bytes : List ℕ) → o ≡ Some (w, bytes) → w.base ≢ base.Time 0) → option_and_then with_bytes o ≡ Some r → IsSized r
-image_sized None r based is = absurd (cc is)
-image_sized (Some (image, bytes)) r based is = at (image.length == length bytes) refl is
+image_sized : (o : Option (WholeImage × List ℕ)) (r : Record) → option_and_then with_bytes o ≡ Some r → IsSized r
+image_sized None r is = absurd (cc is)
+image_sized (Some (image, bytes)) r is = at (image.length == length bytes) refl is
   where
     at : (b : Bool) → (image.length == length bytes) ≡ b → (if b then Some (record { entry = entry.WholeImage image; bytes = bytes }) else None) ≡ Some r → IsSized r
     at true same made =
         let whole : record { entry = entry.WholeImage image; bytes = bytes } ≡ r = cc made in
         let length_is : image.length ≡ length bytes = grind (arith, nat_tests, same) in
-        subst IsSized whole (length_is, based image bytes refl)
+        subst IsSized whole length_is
     at false differs made = absurd (cc made)
 
 record_sized : (body : List ℕ) (r : Record) → record_of body ≡ Some r → IsSized r
@@ -70,7 +42,7 @@ record_sized body r is = at (byte_field body) is
   where
     kinds : (one seven : Bool) (rest : List ℕ) → (if one then option_and_then without_bytes (settings_field rest) else (if seven then option_and_then with_bytes (whole_image_field rest) else None)) ≡ Some r → IsSized r
     kinds true seven rest made = settings_sized (settings_field rest) r made
-    kinds false true rest made = image_sized (whole_image_field rest) r (image_based rest) made
+    kinds false true rest made = image_sized (whole_image_field rest) r made
     kinds false false rest made = absurd (cc made)
 
     at : (o : Option (ℕ × List ℕ)) → option_and_then of_kind o ≡ Some r → IsSized r

@@ -63,10 +63,13 @@ lines_sound (line ∷ lines) s t sound is =
 
 -- Images.
 
-is_base : (b : Base) (time : ℕ) → b ≢ base.Time 0 → is_base_below b time ≡ true → IsBase b time
-is_base base.None time some below = tt
-is_base (base.Time zero) time some below = absurd (some refl)
-is_base (base.Time (suc moment)) time some below = (omega arith, grind (arith, nat_tests, below))
+is_base : (b : Base) (time : ℕ) → is_base_below b time ≡ true → IsBase b time
+is_base base.None time below = tt
+is_base (base.Time moment) time below =
+    let parts = and_parts (nat_le 1 moment) (nat_lt moment time) below in
+    let from = parts.0 in
+    let to = parts.1 in
+    (grind (arith, nat_tests, from), grind (arith, nat_tests, to))
 
 room_for : (known takes : Bool) (count : ℕ) → (known || (takes && nat_lt count client_limit)) ≡ true → known ≡ false → (takes ≡ true) × (count < client_limit)
 room_for true takes count fits unknown = absurd (false≢true (sym unknown))
@@ -74,8 +77,8 @@ room_for false true count fits unknown = (refl, grind (arith, nat_tests, fits))
 room_for false false count fits unknown = absurd (false≢true fits)
 
 -- an image that an opening takes is one that fits
-fits_by : (s : State) (w : WholeImage) (size : ℕ) → w.base ≢ base.Time 0 → image_fits s w ≡ true → Fits s (sealed_entry s.site.book w.id w.policy w.schedule w.kind w.base w.lifecycle w.version w.completed size) w.completed
-fits_by s w size based fits =
+pub fits_by : (s : State) (w : WholeImage) (size : ℕ) → image_fits s w ≡ true → Fits s (sealed_entry s.site.book w.id w.policy w.schedule w.kind w.base w.lifecycle w.version w.completed size) w.completed
+fits_by s w size fits =
     let h = and_parts _ (nat_le w.completed last_moment) fits in
     let g = and_parts _ (is_base_below w.base w.id.time) h.0 in
     let f = and_parts _ (nat_le w.id.time last_moment) g.0 in
@@ -95,7 +98,7 @@ fits_by s w size based fits =
       version = c.1;
       client = room_for (is_known w.id.client s.site.book) (takes_all w.policy) (length s.site.book.clients) d.1;
       time = (grind (arith, nat_tests, from), grind (arith, nat_tests, to));
-      base = is_base w.base w.id.time based g.1;
+      base = is_base w.base w.id.time g.1;
       completed = grind (arith, nat_tests, late);
     }
 
@@ -107,8 +110,8 @@ entry_sound s (entry.WholeImage w) bytes t is_read sound is =
     let done = guarded (image_fits s w) (Some (sealed (whole_image s w bytes) (whole_unit s w) s)) t is in
     let same : sealed (whole_image s w bytes) (whole_unit s w) s ≡ t = cc done.1 in
     subst Sound same
-    (subst (λ (n : ℕ). Sound (sealed (record { entry = sealed_entry s.site.book w.id w.policy w.schedule w.kind w.base w.lifecycle w.version w.completed n; bytes = bytes }) (whole_unit s w) s)) (sym is_read.0)
-    (seal_sound s sound w.id w.policy w.schedule w.kind w.base w.lifecycle w.version w.completed bytes (fits_by s w (length bytes) is_read.1 done.0)))
+    (subst (λ (n : ℕ). Sound (sealed (record { entry = sealed_entry s.site.book w.id w.policy w.schedule w.kind w.base w.lifecycle w.version w.completed n; bytes = bytes }) (whole_unit s w) s)) (sym is_read)
+    (seal_sound s sound w.id w.policy w.schedule w.kind w.base w.lifecycle w.version w.completed bytes (fits_by s w (length bytes) done.0)))
 
 applied_sound : (fs : List Found) (at : ℕ) (o : Option State) (t : State) → AreRead fs → ((s : State) → o ≡ Some s → Sound s) → applied_from at o fs ≡ Ok t → Sound t
 applied_sound fs at None t read sound is = absurd (cc is)
@@ -154,7 +157,7 @@ module _ (s : State) (sound : Sound s) (asked : Asked) (payload : List ℕ) (mom
   w = whole_of (backup_body asked moment s) moment
 
   -- it is one that an opening takes
-  taken : moment ≤ last_moment → first_refusal (backup_refusals asked moment s) ≡ None → image_fits s w ≡ true
+  pub taken : moment ≤ last_moment → first_refusal (backup_refusals asked moment s) ≡ None → image_fits s w ≡ true
   taken early none =
       let fits = backup_fits s sound asked payload moment early none in
       let few = fits.room in

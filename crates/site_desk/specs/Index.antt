@@ -1,14 +1,15 @@
 -- The desk's index of its journal.
-use Rattle.std.specs.Prelude.{◌≡◌, ℕ, List, [], length, Option, Some, None, Ok, Err, Contains}
+use Rattle.std.specs.Prelude.{◌≡◌, ℕ, true, List, [], length, Option, Some, None, Ok, Err, Contains}
 use Rattle.site_types.specs.declared.answer.Answer.{Answer}
 use Rattle.site_types.specs.declared.id.BackupId.{BackupId}
 use Rattle.site_types.specs.declared.request.Request.{Request}
+use Rattle.pool_journal.specs.declared.entry.WholeImage.{WholeImage}
 use Rattle.pool_journal.specs.Records.{Found}
 use Rattle.desk_model.specs.declared.site.Site.{Site}
 use Rattle.desk_model.specs.State.{State, Image, Stored, initial, entries}
 use Rattle.desk_model.specs.Refusals.{first_refusal}
 use Rattle.desk_model.specs.Settings.{setting_refusals, site_after}
-use Rattle.site_desk.specs.Stands.{applied}
+use Rattle.site_desk.specs.Stands.{applied, image_fits}
 use Rattle.site_desk.specs.Extents.{extent_of, Catalogued}
 use Rattle.site_desk.specs.declared.extents.Extent.{Extent}
 use Rattle.site_desk.specs.declared.index.Index.{Index}
@@ -22,6 +23,10 @@ pub record Remembers (records : List Found) (index : Index) (images : List Image
   pub listed : entries images ≡ index.catalogue
   pub catalogued : Catalogued records index.extents images
   pub sized : (i : Image) → Contains images i → i.entry.length ≡ length i.bytes
+
+-- an image that the state of an index takes, whatever the bytes of its images
+abbrev pub FitsIndex : Index → WholeImage → Type 0
+FitsIndex index w = (images : List Image) (stored : List Stored) → entries images ≡ index.catalogue → image_fits (built index.site images stored) w ≡ true
 
 -- a request that changes the site was carried out, or refused so
 pub record IsSet (s : State) (request : Request) (old new : Index) (refusal : Option Answer) : Type 0 where

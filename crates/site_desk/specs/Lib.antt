@@ -1,5 +1,6 @@
 pub mod Stands
 pub mod Extents
+pub mod SoundIndex
 pub mod Index
 pub mod Replays
 pub mod Desk

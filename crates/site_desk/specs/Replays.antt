@@ -13,10 +13,10 @@ use Rattle.desk_model.specs.Settings.{is_setting}
 use Rattle.site_desk.specs.Index.{built, Remembers}
 use Rattle.site_desk.specs.declared.index.Index.{Index}
 
--- the entry of an image tells how many bytes stand behind it, and its base is no moment 0
+-- the entry of an image tells how many bytes stand behind it
 abbrev pub IsRead : Entry → ℕ → Type 0
 IsRead (entry.Settings lines) size = Unit {0}
-IsRead (entry.WholeImage w) size = (w.length ≡ size) × (w.base ≢ base.Time 0)
+IsRead (entry.WholeImage w) size = w.length ≡ size
 
 -- each record is so
 abbrev pub AreRead : List Found → Type 0

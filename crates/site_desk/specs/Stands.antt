@@ -23,10 +23,10 @@ use Rattle.desk_model.specs.Refusals.{first_refusal}
 use Rattle.desk_model.specs.Backups.{image_limit, takes_all, is_known, operations_in, unit_of, sealed_entry, sealed}
 use Rattle.desk_model.specs.Settings.{is_setting, setting_refusals, set_by}
 
--- a base is a moment below this one
+-- a base is a moment from 1 on, and below this one
 abbrev pub is_base_below : Base → ℕ → Bool
 is_base_below base.None time = true
-is_base_below (base.Time b) time = nat_lt b time
+is_base_below (base.Time b) time = nat_le 1 b && nat_lt b time
 
 -- the client is there; or the policy takes every client, and there is room for one more
 abbrev pub client_fits : State → WholeImage → Bool

@@ -1,29 +1,25 @@
 // A backup at once.
-ghost use Rattle.std.specs.Prelude.{◌≡◌, ◌≢◌, ◌<◌, ◌≤◌, ◌^◌, List, true, length, IfOk, OnOk, OnErr, IfErr};
-ghost use Rattle.site_types.specs.Limits.{last_moment};
+ghost use Rattle.std.specs.Prelude.{◌≡◌, ◌≢◌, ◌≤◌, List, true, length, IfOk, OnOk, OnErr, IfErr};
+ghost use Rattle.site_types.specs.Limits.{last_moment, payload_limit};
 ghost use Rattle.site_types.specs.Lines.{IsFormed};
 ghost use Rattle.site_types.specs.declared.image.Base.TheVariants as base;
 ghost use Rattle.pool_journal.specs.declared.entry.Entry.TheVariants as entry;
-ghost use Rattle.pool_journal.specs.Entries.{IsStaged, body_of};
+ghost use Rattle.pool_journal.specs.Entries.{IsStaged};
 ghost use Rattle.pool_journal.specs.Records.{Found};
 ghost use Rattle.desk_model.specs.State.{Image, Stored};
 ghost use Rattle.desk_model.specs.Sound.{Sound};
-ghost use Rattle.site_desk.specs.Index.{built, Remembers, SameIndex};
+ghost use Rattle.site_desk.specs.Index.{built, FitsIndex, Remembers, SameIndex};
 ghost use Rattle.site_desk.specs.Desk.{whole_of};
 ghost use Rattle.site_desk.specs.Steps.{is_backup, IsReady, IsRefused, IsStepRefusal, IsTaken};
 
 use crate::extents::next_extent;
 use crate::index::Index;
-use crate::lines::RECORD_END;
 use crate::prepare::Ready;
-use crate::replay::take_image;
+use crate::replay::admit_image;
 use desk_rules::{Change, Decision, JobBody, decide};
 use pool_journal::{Entry, Journal, Staged, WholeImage};
 use site_types::{Answer, NoMemory, Request};
-use std::alloc::{AllocError, Global};
-
-// What a record has of an image before its bytes, without its names.
-const WITHOUT_NAMES: u64 = 44;
+use std::alloc::Global;
 
 fn whole_of(body: JobBody, moment: u64) -> WholeImage
     ensures { result ≡ whole_of body moment }
@@ -51,18 +47,7 @@ fn whole_of(body: JobBody, moment: u64) -> WholeImage
     }
 }
 
-fn is_writable(image: &WholeImage, payload: &[u8]) -> bool
-    ensures { result ≡ true → length (body_of (record { entry = entry.WholeImage image.now; bytes = payload.now })) < 2 ^ 32 }
-{
-    let names = image.id.client.bytes().len()
-        + image.policy.bytes().len()
-        + image.schedule.bytes().len()
-        + image.lifecycle.bytes().len();
-    (WITHOUT_NAMES + names as u64).saturating_add(payload.len() as u64) < RECORD_END
-}
-
-// Takes all memory of an image's record, and takes the image in. An image that nothing refuses fits wherever the vault tells what
-// it holds. One that doesn't fit is never recorded, since no opening would take it.
+// Takes all memory of an image's record, and takes the image in.
 fn seal(
     alloc: Global,
     index: &mut Index,
@@ -70,24 +55,21 @@ fn seal(
     image: WholeImage,
     payload: &[u8],
 ) -> Result<Staged, NoMemory>
+    requires payload { length payload.now ≤ payload_limit }
     requires length { image.length ≡ length payload.now }
     requires base { image.base ≢ base.Time 0 }
+    requires fits { FitsIndex index.old image }
     ensures staged { IfOk result (IsStaged (record { entry = entry.WholeImage image; bytes = payload.now })) }
     ensures taken { (records : List Found) (images : List Image) (stored : List Stored) → Remembers records index.old images → OnOk result (IsTaken records end (built index.old.site images stored) (record { entry = entry.WholeImage image; bytes = payload.now }) index.new) }
     ensures unchanged { OnErr result (SameIndex index.old index.new) }
 {
-    if !is_writable(&image, payload) {
-        return Err(AllocError);
-    }
     let entry = Entry::WholeImage(image);
-    let staged = Journal::stage(alloc, &entry, payload)?;
     let extent = next_extent(end, &entry, payload);
+    let staged = Journal::stage(alloc, &entry, payload)?;
     let Entry::WholeImage(image) = &entry else {
         unreachable!()
     };
-    if !take_image(alloc, index, image, extent)? {
-        return Err(AllocError);
-    }
+    admit_image(alloc, index, image, extent)?;
     Ok(staged)
 }
 
@@ -102,6 +84,7 @@ pub fn prepare_backup(
 ) -> Result<Ready, Answer>
     requires backup { is_backup request.now ≡ true }
     requires formed { IsFormed request.now }
+    requires payload { length payload.now ≤ payload_limit }
     requires moment { moment ≤ last_moment }
     ensures ready { (records : List Found) (images : List Image) (stored : List Stored) → Remembers records index.old images → Sound (built index.old.site images stored) → IfOk result (λ r. IsReady records end (built index.old.site images stored) request.now payload.now moment r.staged r.body index.new) }
     ensures refused { (records : List Found) (images : List Image) (stored : List Stored) → Remembers records index.old images → IfErr result (IsRefused (built index.old.site images stored) request.now payload.now moment) }

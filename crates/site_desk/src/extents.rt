@@ -1,6 +1,6 @@
 // Where the bytes of images stand.
 ghost use Rattle.std.specs.Prelude.{◌≡◌, ◌+◌, ◌<◌, ◌^◌, length, None, is_some, OnOk, OnErr};
-ghost use Rattle.pool_journal.specs.Entries.{spelled_entry};
+ghost use Rattle.pool_journal.specs.Entries.{spelled_entry, HasShortFields};
 ghost use Rattle.site_types.specs.declared.id.BackupId.{BackupId as Id};
 ghost use Rattle.site_desk.specs.Extents.{extent_of, Adds, Removes};
 
@@ -72,10 +72,11 @@ impl Extents {
     }
 }
 
-/// Where the bytes of the next record will stand, behind the journal's closed gate at this offset.
+/// Where the bytes of the next record will stand, behind the journal's closed gate at this offset. The fields of an image are short.
 pub fn next_extent(end: u64, entry: &Entry, bytes: &[u8]) -> Extent
     ensures from { end + 5 + length (spelled_entry entry.now) < 2 ^ 63 → result.from ≡ end + 5 + length (spelled_entry entry.now) }
     ensures length { result.length ≡ length bytes.now }
+    ensures short { HasShortFields entry.now }
 {
     Extent {
         from: end.saturating_add(5).saturating_add(entry.size()),

@@ -5,6 +5,7 @@ ghost use Rattle.policy_book.specs.Changes.{client_sealed};
 ghost use Rattle.image_catalogue.specs.Images.{record_named, with_record};
 ghost use Rattle.desk_rules.specs.SiteChanges.{CanBeMade, site_made};
 ghost use Rattle.site_desk.specs.Extents.{extent_of};
+ghost use Rattle.site_desk.specs.SoundIndex.{SoundState};
 
 use crate::extents::{Extent, Extents};
 use desk_model::Site;
@@ -22,6 +23,9 @@ pub struct Index {
     pub extents: Extents,
     // The images of the catalogue are those that have an extent.
     ghost placed: { (id : Id) → is_some (extent_of id extents) ≡ is_some (record_named id catalogue) },
+    // There is a sound state with this site and these images, over any vault. So a backup that the rules allow is of an image that
+    // an opening takes.
+    ghost sound: { ∥ SoundState site catalogue ∥₁ },
 }
 
 impl Index {
@@ -58,6 +62,7 @@ impl Index {
         extent: Extent,
     ) -> Result<(), NoMemory>
         requires new { record_named image.id self.old.catalogue ≡ None }
+        requires sound { ∥ SoundState (record self.old.site { book = client_sealed image.id.client image.id.time self.old.site.book }) (with_record image self.old.catalogue) ∥₁ }
         ensures site { OnOk result (self.new.site ≡ record self.old.site { book = client_sealed image.id.client image.id.time self.old.site.book }) }
         ensures catalogue { OnOk result (self.new.catalogue ≡ with_record image self.old.catalogue) }
         ensures extents { OnOk result (Adds image.id extent self.old.extents self.new.extents) }

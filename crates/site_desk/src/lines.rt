@@ -10,8 +10,8 @@ use std::alloc::{AllocError, Global};
 // The length of a line fits into two bytes.
 const LINE_END: u64 = 65_536;
 
-/// The length of a record's body fits into four bytes.
-pub const RECORD_END: u64 = 4_294_967_296;
+// The length of a record's body fits into four bytes.
+const RECORD_END: u64 = 4_294_967_296;
 
 // The kind of a settings record, and the number of its lines.
 const BEFORE_LINES: u64 = 5;

@@ -1,6 +1,6 @@
 // What a request needs before its record is written: all of its memory, and the index once it is done.
-ghost use Rattle.std.specs.Prelude.{◌≡◌, ◌≤◌, List, true, IfOk, IfErr, OnErr};
-ghost use Rattle.site_types.specs.Limits.{last_moment};
+ghost use Rattle.std.specs.Prelude.{◌≡◌, ◌≤◌, List, length, true, IfOk, IfErr, OnErr};
+ghost use Rattle.site_types.specs.Limits.{last_moment, payload_limit};
 ghost use Rattle.site_types.specs.Lines.{IsFormed};
 ghost use Rattle.pool_journal.specs.Records.{Found};
 ghost use Rattle.desk_model.specs.State.{Image, Stored};
@@ -35,6 +35,7 @@ pub fn prepare(
 ) -> Result<Ready, Answer>
     requires written { is_written request.now ≡ true }
     requires formed { IsFormed request.now }
+    requires payload { length payload.now ≤ payload_limit }
     requires moment { moment ≤ last_moment }
     ensures ready { (records : List Found) (images : List Image) (stored : List Stored) → Remembers records index.old images → Sound (built index.old.site images stored) → IfOk result (λ r. IsReady records end (built index.old.site images stored) request.now payload.now moment r.staged r.body index.new) }
     ensures refused { (records : List Found) (images : List Image) (stored : List Stored) → Remembers records index.old images → IfErr result (IsRefused (built index.old.site images stored) request.now payload.now moment) }

@@ -1,5 +1,5 @@
 // Replaying the entries of a journal.
-ghost use Rattle.std.specs.Prelude.{◌≡◌, ◌&&◌, ◌||◌, [], not, true, false, is_some, is_none, length, nat_le, nat_lt, List, None, IfOk, OnErr, Contains};
+ghost use Rattle.std.specs.Prelude.{◌≡◌, ◌&&◌, ◌||◌, [], not, true, false, is_some, is_none, length, nat_le, nat_lt, List, IfOk, OnOk, OnErr, Contains};
 ghost use Rattle.site_types.specs.Limits.{last_moment};
 ghost use Rattle.slp_tree.specs.Lifecycles.{version_named};
 ghost use Rattle.policy_book.specs.Lists.{has};
@@ -11,8 +11,8 @@ ghost use Rattle.desk_model.specs.Site.{initial_site};
 ghost use Rattle.desk_model.specs.State.{Image, Stored, entries, has_image};
 ghost use Rattle.desk_model.specs.Backups.{image_limit, is_known, takes_all};
 ghost use Rattle.site_desk.specs.Stands.{apply, is_base_below, image_fits};
-ghost use Rattle.site_desk.specs.Index.{built, Remembers, IsReplayed, SameIndex};
-ghost use Rattle.site_desk.specs.Replays.{AreRead, IsReached};
+ghost use Rattle.site_desk.specs.Index.{built, FitsIndex, Remembers, IsReplayed, SameIndex};
+ghost use Rattle.site_desk.specs.Replays.{AreRead, Reaches, IsReached};
 
 use crate::extents::{Extent, Extents};
 use crate::image::record_of;
@@ -34,16 +34,14 @@ fn is_new(catalogue: &Catalogue, id: &BackupId) -> bool
 
 // The image isn't there, and there is room for it.
 fn has_room(catalogue: &Catalogue, id: &BackupId) -> bool
-    ensures fits { (images : List Image) → entries images ≡ catalogue.now → result ≡ (nat_lt (length images) image_limit && not (has_image id.now images)) }
-    ensures new { result ≡ true → record_named id.now catalogue.now ≡ None }
+    ensures { (images : List Image) → entries images ≡ catalogue.now → result ≡ (nat_lt (length images) image_limit && not (has_image id.now images)) }
 {
     catalogue.count() < IMAGE_LIMIT && is_new(catalogue, id)
 }
 
 // The policy is there, and the version of the lifecycle.
 fn is_allowed(book: &Book, image: &WholeImage) -> bool
-    ensures allowed { result ≡ (has policy_name image.now.policy book.now.policies && is_some (version_named image.now.lifecycle image.now.version book.now.lifecycles)) }
-    ensures version { result ≡ true → is_some (version_named image.now.lifecycle image.now.version book.now.lifecycles) ≡ true }
+    ensures { result ≡ (has policy_name image.now.policy book.now.policies && is_some (version_named image.now.lifecycle image.now.version book.now.lifecycles)) }
 {
     book.policy(&image.policy).is_some()
         && book
@@ -65,7 +63,7 @@ fn is_base_below(base: Base, time: u64) -> bool
 {
     match base {
         Base::None => true,
-        Base::Time(before) => before < time,
+        Base::Time(before) => 1 <= before && before < time,
     }
 }
 
@@ -79,9 +77,7 @@ fn is_in_time(image: &WholeImage) -> bool
 }
 
 fn image_fits(index: &Index, image: &WholeImage) -> bool
-    ensures fits { (records : List Found) (images : List Image) (stored : List Stored) → Remembers records index.now images → result ≡ image_fits (built index.now.site images stored) image.now }
-    ensures new { result ≡ true → record_named image.now.id index.now.catalogue ≡ None }
-    ensures version { result ≡ true → is_some (version_named image.now.lifecycle image.now.version index.now.site.book.lifecycles) ≡ true }
+    ensures { (images : List Image) (stored : List Stored) → entries images ≡ index.now.catalogue → result ≡ image_fits (built index.now.site images stored) image.now }
 {
     has_room(&index.catalogue, &image.id)
         && is_allowed(&index.site.book, image)
@@ -89,8 +85,31 @@ fn image_fits(index: &Index, image: &WholeImage) -> bool
         && is_in_time(image)
 }
 
-/// Takes in an image whose bytes stand there, if it fits. Else, and without memory, all stays as it was.
-pub fn take_image(
+/// Takes in an image that fits, and whose bytes stand there. Without memory all stays as it was.
+pub fn admit_image(
+    alloc: Global,
+    index: &mut Index,
+    image: &WholeImage,
+    extent: Extent,
+) -> Result<(), NoMemory>
+    requires fits { FitsIndex index.old image.now }
+    ensures taken { (records : List Found) (images : List Image) (stored : List Stored) (f : Found)
+        → Contains records f
+        → f.is.entry ≡ entry.WholeImage image.now
+        → image.now.length ≡ length f.is.bytes
+        → extent.from ≡ f.from
+        → extent.length ≡ length f.is.bytes
+        → Remembers records index.old images
+        → OnOk result (Reaches records (apply (built index.old.site images stored) f.is) index.new) }
+    ensures unchanged { OnErr result (SameIndex index.old index.new) }
+{
+    let record = record_of(alloc, &index.site.book, image)?;
+    index.admit(alloc, record, extent)?;
+    Ok(())
+}
+
+// Takes in an image whose bytes stand there, if it fits. Else, and without memory, all stays as it was.
+fn take_image(
     alloc: Global,
     index: &mut Index,
     image: &WholeImage,
@@ -110,8 +129,7 @@ pub fn take_image(
     if !image_fits(index, image) {
         return Ok(false);
     }
-    let record = record_of(alloc, &index.site.book, image)?;
-    index.admit(alloc, record, extent)?;
+    admit_image(alloc, index, image, extent)?;
     Ok(true)
 }
 
@@ -137,6 +155,7 @@ fn replay_record(alloc: Global, index: &mut Index, placed: &Placed) -> Result<bo
 }
 
 // The index of a new vault.
+#[tactic(auto, using(crate::proofs::SoundIndex::sound_new))]
 fn of_new_vault(alloc: Global) -> Result<Index, NoMemory>
     ensures site { IfOk result (λ k. k.site ≡ initial_site) }
     ensures remembered { (records : List Found) → IfOk result (λ k. Remembers records k []) }

@@ -49,6 +49,7 @@ impl<V: Vault> Desk<V> {
         requires running { self.old.stopped ≡ false }
         requires written { is_written request.now ≡ true }
         requires formed { IsFormed request.now }
+        requires payload { length payload.now ≤ payload_limit }
         requires moment { moment ≤ last_moment }
         ensures steps { (V.disk self.old.vault).tells → Steps self.old.state request.now payload.now moment result (V.disk self.old.vault) (V.disk self.new.vault) self.new.state }
         ensures kinds { IsOfRequest request.now payload.now result }

@@ -1,7 +1,8 @@
-use Rattle.std.proofs.Common.{◌∙◌, ap, sym, refl}
+use Rattle.std.proofs.Common.{◌∙◌, ap, sym, subst, refl}
 use Rattle.pool_journal.specs.declared.entry.WholeImage.{WholeImage}
+use Rattle.site_desk.specs.Index.{FitsIndex}
 use Rattle.site_desk.proofs.IndexLemmas.{remembers_same}
-use Rattle.site_desk.proofs.Sealing.{refusal_plain, refused_here, length_here, base_here, ready_here}
+use Rattle.site_desk.proofs.Sealing.{refusal_plain, refused_here, length_here, base_here, fits_here, ready_here}
 use Rattle.site_desk.proofs.backup.prepare_backup.Goals as goal
 
 pub returns-in_default-change : goal.returns-in_default-change
@@ -28,6 +29,10 @@ pub seal-requires-clause-base : goal.seal-requires-clause-base
 seal-requires-clause-base c zero_is =
     let none = base_here c.args.index.now c.args.request.now c.args.payload.now _ c.args.moment c.in-Ok.decision c.requires.backup refl c.in-Ok.ensures.decided c.in-SealNow.body c.in-SealNow.is in
     cc (sym zero_is ∙ ap (λ (w : WholeImage). w.base) c.whole_of.ensures ∙ none)
+
+pub seal-requires-clause-fits : goal.seal-requires-clause-fits
+seal-requires-clause-fits c =
+    subst (FitsIndex c.args.index.now) (sym c.whole_of.ensures) (fits_here c.args.index.now c.args.request.now c.args.payload.now _ c.args.moment c.in-Ok.decision c.requires.backup refl c.in-Ok.ensures.decided c.in-SealNow.body c.in-SealNow.is c.requires.moment)
 
 pub returns-in-Ok-seal-clause-ready : goal.returns-in-Ok-seal-clause-ready
 returns-in-Ok-seal-clause-ready c records images stored remembers sound =
