@@ -1,13 +1,13 @@
 -- A whole run, from what was answered and sent.
 use Rattle.std.proofs.Common.{◌≡◌, ◌⊎◌, inl, inr, ⊎_elim, ℕ, ◌≤◌, List, [], ◌∷◌, ◌++◌, refl, sym, ◌∙◌, ap, subst, arith}
-use Rattle.std.specs.Prelude.{Some, Result, Ok, Err, MatchResult}
+use Rattle.std.specs.Prelude.{Some, Result, Ok}
 use Rattle.std.specs.Borrow.{GName}
 use Rattle.std.proofs.lemmas.List.{append-nil}
 use Rattle.site_types.specs.Answers.{number_of, text_of, NeedsMemory}
 use Rattle.site_types.specs.declared.answer.Answer.{Answer}
 use Rattle.site_types.specs.declared.answer.Answer.TheVariants.{OutOfMemory, BadRequest, DiskFault, NotAVault}
 use Rattle.vault_disk.specs.Disk.{Disk, Image}
-use Rattle.vault_disk.specs.Steps.{Rose, Sends, Rests}
+use Rattle.vault_disk.specs.Steps.{Rose, Rests}
 use Rattle.vault_disk.specs.Input.{Input}
 use Rattle.vault_disk.specs.Ticks.{Ticks}
 use Rattle.pool_journal.specs.declared.fault.JournalFault.{JournalFault}
@@ -15,20 +15,14 @@ use Rattle.pool_journal.specs.declared.fault.JournalFault.TheVariants as journal
 use Rattle.desk_model.specs.State.{State, durable}
 use Rattle.site_desk.specs.Desk.{IsFaultOf}
 use Rattle.site_desk.specs.Stands.{opened, stands, Standing, Opens}
-use Rattle.bp_cli.specs.Gather.{IsUntouched}
-use Rattle.bp_cli.specs.Runs.{Outcome, refused, carried, said, AreSent, IfLast, HasRisen, IsStatus, Replied, Leaves, Stops, StopsFrom, Opening, state_in, refusal_of, Acts, Acted, Delivers, Sent, RepliesTo}
-use Rattle.bp_cli.specs.Singles.{IsUnopened, IsAsked, IsAnswered, Ran, RanBad}
-use Rattle.bp_cli.specs.Sessions.{framed, Serves, ServesOn, ServesVault, RefusesVault, RanSession}
+use Rattle.bp_cli.specs.Runs.{Outcome, refused, carried, said, AreSent, IfLast, HasRisen, IsStatus, Replied, Leaves, Stops, state_in, refusal_of, Acts, Acted, Delivers, Sent, RepliesTo}
+use Rattle.bp_cli.specs.Singles.{IsUnopened, IsAnswered, Ran, RanBad}
+use Rattle.bp_cli.specs.Sessions.{framed, Serves, ServesOn, RanSession}
 use Rattle.bp_cli.proofs.Asking.{asked_forgotten, untouched}
 use Rattle.bp_cli.proofs.Executing.{acts_none}
 use Rattle.bp_cli.proofs.Leaving.{leaves_none, leaves_more, stops_so, found_at, acts_unopened, leaves_opened, stands_opened, state_opened}
 use Rattle.bp_cli.proofs.Replying.{forgotten, replies_to}
 use Rattle.bp_cli.proofs.Rising.{risen_since}
-
--- what a send of a text delivered
-pub delivers_so : {T E : Type 0} (text : List ℕ) (number : ℕ) (old new : Disk) (status : ℕ) (r : Result T E) → Sends text old new r → MatchResult r (λ _. status ≡ number) (λ _. status ≡ 20) → Delivers text old new status
-delivers_so text number old new status (Ok v) s is = record { sent = record { part = s.part; whole = λ ne. s.sent }; rests = s.rests; during = s.during }
-delivers_so text number old new status (Err e) s is = record { sent = record { part = s.part; whole = λ ne. absurd (ne is) }; rests = s.rests; during = s.during }
 
 -- one text was sent for an answer
 pub sent_so : (text : Answer → List ℕ) (a answer : Answer) (bytes : List ℕ) (number : ℕ) (old new : Disk) (status : ℕ) → (answer ≡ a) ⊎ ((answer ≡ OutOfMemory) × NeedsMemory a) → bytes ≡ text answer → number ≡ number_of answer → IsStatus number old new status → (old.tells → Delivers bytes old new status) → Sent text a old new status

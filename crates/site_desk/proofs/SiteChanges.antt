@@ -84,9 +84,6 @@ taken_back old mid new id key gone extent key_is gone_is absent adds removes =
 abbrev pub IsPlaced : List (BackupId × Extent) → List ImageRecord → Type 0
 IsPlaced extents records = (id : BackupId) → is_some (extent_of id extents) ≡ is_some (record_named id records)
 
-pub placed_none : (extents : List (BackupId × Extent)) → ((id : BackupId) → extent_of id extents ≡ None) → IsPlaced extents []
-placed_none extents none id = ap is_some (none id)
-
 recorded-with : (id : BackupId) (new : ImageRecord) (records : List ImageRecord) → is_some (record_named id (with_record new records)) ≡ (same_id new.id id || is_some (record_named id records))
 recorded-with id new records =
     ap (λ (l : List ImageRecord). is_some (record_named id (with_record new l))) (sym (entries_seen records)) ∙ ap (λ (l : List ImageRecord). is_some (record_named id l)) (sym (entries-with (blank new) (map blank records)))
