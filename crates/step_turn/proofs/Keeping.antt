@@ -1,0 +1,202 @@
+-- Each kind of step keeps the rule of a turn.
+use Rattle.std.proofs.Common.{◌≡◌, ◌≢◌, ◌⊎◌, ℕ, zero, suc, ◌+◌, ◌-◌, ◌%◌, ◌^◌, ◌≤◌, ◌<◌, ◌==◌, ◌++◌, Bool, true, false, cond, List, [], ◌∷◌, length, set, refl, sym, ap, ◌∙◌, subst, inl, inr, ⊎_elim, true≢false, arith, rules, append_assoc, eqb, eq-eqb, ne_eqb}
+use Rattle.std.specs.Prelude.{Option, Some, None, slice_index, slice_set, MatchBool}
+use Rattle.std.proofs.lemmas.List.{append-nil}
+use mathlib.Core.Option.{some, none, some-ne-none, some-injective}
+use mathlib.Core.Logic.{dite}
+use native.Mathlib.Decide.{ℕ_discrete}
+use prog.Atomic.{either}
+use lib.ListN.{get_elem?}
+use Rattle.std.proofs.lemmas.Bool.Decides.{nat_tests}
+use Rattle.atomic_table.specs.Table.{State, Me, Step, step, Act, keeps, takes, gives, rest, Valid, homes_after, carried_after, put_back, Allows, Splits, Joins, stepped, opening}
+use Rattle.atomic_table.proofs.Lists.{at_set, at_snoc, at_last, at_longer, set_again, set_here, set_else}
+use Rattle.step_turn.specs.Meaning.{Meaning}
+use Rattle.step_turn.specs.Histories.{calls, call_count, made_by, turn_of, Every, Among, StartsWith, IsLegal, Reaches}
+use Rattle.step_turn.specs.Order as order
+use Rattle.step_turn.specs.Order.{chair, spent, making, maker, seated, noted, left_of, right_of, longer, joined, with_ticket, looked, with_call, served, Book, ChairFits, Fits, IsOrdered, HasChair, is_ticket, TookTicket, Looked, Advanced}
+use Rattle.step_turn.specs.declared.entry.Call.{Call}
+use Rattle.step_turn.specs.declared.entry.Entry.{Entry}
+use Rattle.step_turn.specs.declared.view.Chair.{Chair}
+use Rattle.step_turn.specs.declared.view.View.{View}
+use Rattle.step_turn.proofs.Growth.{call_count-append, calls-append, made_by-append, reaches-legal}
+
+off : false ≡ true → ⊥
+off e = true≢false (sym e)
+
+-- lists
+
+module _ {X : Type 0} where
+  pub every_map : (P Q : X → Type 0) → ((x : X) → P x → Q x) → (xs : List X) → Every P xs → Every Q xs
+  every_map P Q f [] h = tt
+  every_map P Q f (x ∷ xs) h = (f x h.0, every_map P Q f xs h.1)
+
+  pub every_append : (P : X → Type 0) (xs ys : List X) → Every P xs → Every P ys → Every P (xs ++ ys)
+  every_append P [] ys h k = k
+  every_append P (x ∷ xs) ys h k = (h.0, every_append P xs ys h.1 k)
+
+  pub starts_whole : (xs : List X) → StartsWith xs xs
+  starts_whole xs = ([], sym (append-nil xs))
+
+  pub starts_longer : (more xs front : List X) → StartsWith xs front → StartsWith (xs ++ more) front
+  starts_longer more xs front s = (s.0 ++ more, ap (λ l. l ++ more) s.1 ∙ append_assoc front s.0 more)
+
+  -- what holds of each other element and of the new one holds of each
+  pub set_each : (P : ℕ → X → Type 0) (xs : List X) (i : ℕ) (y : X) → ((j : ℕ) (x : X) → j ≢ i → get_elem? xs j ≡ some x → P j x) → P i y
+      → (j : ℕ) (x : X) → get_elem? (set xs i y) j ≡ some x → P j x
+  set_each P xs i y others mine j x e =
+      ⊎_elim
+      (λ (t : (j ≡ i) × (y ≡ x)). subst (λ (z : ℕ × X). P z.0 z.1) (λ k. (sym t.0 k, t.1 k)) mine)
+      (λ (t : (j ≢ i) × (get_elem? xs j ≡ some x)). others j x t.0 t.1)
+      (at_set xs i j y x e)
+
+  pub at_below : (xs : List X) (i : ℕ) (x : X) → get_elem? xs i ≡ some x → i < length xs
+  at_below [] i x e = absurd (some-ne-none x (sym e))
+  at_below (y ∷ ys) zero x e = omega arith
+  at_below (y ∷ ys) (suc i) x e = let b = at_below ys i x e in omega arith
+
+  pub same_at : (xs : List X) (i j : ℕ) (x y : X) → get_elem? xs i ≡ some x → get_elem? xs j ≡ some y → i ≡ j → x ≡ y
+  same_at xs i j x y a b e = some-injective x y (sym a ∙ ap (λ k. get_elem? xs k) e ∙ b)
+
+module _ {Q A : Type 0} where
+  not_spent : (v : View Q A) → HasChair v → v ≡ spent → ⊥
+  not_spent v h e = off_chairs (sym h.1 ∙ ap (λ w. w.chairs) e)
+    where
+      off_chairs : h.0 ∷ [] ≡ [] → ⊥
+      off_chairs e = absurd (cc)
+
+  no_chairs : (v : View Q A) → HasChair v → v.chairs ≡ [] → ⊥
+  no_chairs v h e = absurd (cc)
+
+  seats_of : (count : ℕ) (v : View Q A) → HasChair v → (v ≡ spent) ⊎ (v.seats ≡ count) → v.seats ≡ count
+  seats_of count v h s = ⊎_elim (λ e. absurd (not_spent v h e)) (λ e. e) s
+
+number_in : Option ℕ → ℕ
+number_in None = 0
+number_in (Some n) = n
+
+some_same : (x y : ℕ) → Some x ≡ Some y → x ≡ y
+some_same x y e = ap number_in e
+
+module _ {S Q A : Type 0} (M : Meaning S Q A) (start : S) (count : ℕ) where
+  abbrev Ordered : State (Option S) (View Q A) → Type 0
+  Ordered = IsOrdered M start count
+
+  -- the view with the turn is another one than this, which hasn't it
+  away_else : (s : State (Option S) (View Q A)) (h : Ordered s) (i : ℕ) (v : View Q A) → get_elem? s.views i ≡ some v → v.has_turn ≡ false
+      → (u : View Q A) → get_elem? s.views (h.book.ticket_at h.book.serving) ≡ some u → u.has_turn ≡ true → h.book.ticket_at h.book.serving ≢ i
+  away_else s h i v at idle u there turn same = true≢false (sym turn ∙ ap (λ w. w.has_turn) (same_at s.views _ _ u v there at same) ∙ idle)
+
+  -- a view that has a ticket is the one that has it
+  held_else : (s : State (Option S) (View Q A)) (h : Ordered s) (i : ℕ) (v : View Q A) → get_elem? s.views i ≡ some v → (n : ℕ) → v.ticket ≢ Some n
+      → (u : View Q A) → get_elem? s.views (h.book.ticket_at n) ≡ some u → u.ticket ≡ Some n → h.book.ticket_at n ≢ i
+  held_else s h i v at n none u there has same = none (ap (λ w. w.ticket) (sym (same_at s.views _ _ u v there at same)) ∙ has)
+
+  none_some : (v : View Q A) (n : ℕ) → v.ticket ≡ None → v.ticket ≢ Some n
+  none_some v n a b = absurd (cc)
+
+  -- TAKE TICKET
+
+  abbrev ticketed : Book Q A → ℕ → Book Q A
+  ticketed b i = record {
+    ticket = suc b.ticket;
+    serving = b.serving;
+    log = b.log;
+    made = b.made;
+    maker = b.maker;
+    out = b.out;
+    ticket_at = λ n. cond (n == b.ticket) i (b.ticket_at n);
+    chair_at = b.chair_at;
+  }
+
+  ticket_else : (b : Book Q A) (i n : ℕ) → n ≢ b.ticket → (ticketed b i).ticket_at n ≡ b.ticket_at n
+  ticket_else b i n ne = ap (λ k. cond k i (b.ticket_at n)) (ne_eqb n b.ticket ne)
+
+  ticket_here : (b : Book Q A) (i n : ℕ) → n ≡ b.ticket → (ticketed b i).ticket_at n ≡ i
+  ticket_here b i n e = ap (λ k. cond k i (b.ticket_at n)) (eq-eqb n b.ticket e)
+
+  took : (s : State (Option S) (View Q A)) (h : Ordered s) (i : ℕ) (v : View Q A) → get_elem? s.views i ≡ some v → HasChair v → v.ticket ≡ None → v.has_turn ≡ false → suc h.book.ticket < 2 ^ 64
+      → Ordered record { words = suc h.book.ticket ∷ h.book.serving ∷ []; homes = s.homes; views = slice_set s.views i (with_ticket v (Some h.book.ticket)) }
+  took s h i v at seat none idle room =
+      let b = h.book in
+      let w = with_ticket v (Some b.ticket) in
+      let mine = h.fits i v at in
+      record {
+        book = ticketed b i;
+        words = refl;
+        below = room;
+        order = omega (arith, h.order);
+        legal = h.legal;
+        served = h.served;
+        home = h.home;
+        away = λ out.
+          let a = h.away out in
+          let turned = (h.fits _ a.1.0 a.1.1).turn a.1.2 in
+          let within = (h.fits _ a.1.0 a.1.1).ticket b.serving turned.1 in
+          let place = ticket_else b i b.serving (λ e. absurd (omega (arith, within.1, e))) in
+          let apart = away_else s h i v at idle a.1.0 a.1.1 a.1.2 in
+          (a.0, (a.1.0, subst (λ j. get_elem? (set s.views i w) j ≡ some a.1.0) (sym place) (set_else s.views i _ w apart ∙ a.1.1), a.1.2));
+        held = λ n from to. dite (ℕ_discrete n b.ticket)
+            (λ e. (w, subst (λ j. get_elem? (set s.views i w) j ≡ some w) (sym (ticket_here b i n e)) (set_here s.views i w (at_below s.views i v at)), ap Some (sym e)))
+            (λ ne.
+              let a = h.held n from (omega (arith, to, ne)) in
+              let apart = held_else s h i v at n (none_some v n none) a.0 a.1 a.2 in
+              (a.0, subst (λ j. get_elem? (set s.views i w) j ≡ some a.0) (sym (ticket_else b i n ne)) (set_else s.views i _ w apart ∙ a.1), a.2));
+        made = h.made;
+        callers = h.callers;
+        fits = set_each (Fits count (ticketed b i)) s.views i w
+            (λ j u ne e.
+              let f = h.fits j u e in
+              record {
+                seen = f.seen;
+                heard = f.heard;
+                chairs = f.chairs;
+                ticket = λ t has. let g = f.ticket t has in (g.0, omega (arith, g.1), ticket_else b i t (λ e'. absurd (omega (arith, g.1, e'))) ∙ g.2);
+                unseated = f.unseated;
+                turn = f.turn;
+                making = f.making;
+                seats = f.seats;
+              })
+            record {
+              seen = mine.seen;
+              heard = mine.heard;
+              chairs = mine.chairs;
+              ticket = λ t has.
+                let e : b.ticket ≡ t = some_same b.ticket t has in
+                (subst (λ n. b.serving ≤ n) e h.order, omega (arith, e), ticket_here b i t (sym e));
+              unseated = λ e. absurd (no_chairs v seat e);
+              turn = λ t. absurd (off (sym idle ∙ t));
+              making = mine.making;
+              seats = inr (seats_of count v seat mine.seats);
+            };
+      }
+
+  -- the view stays, or the exchange failed
+  stays : (s : State (Option S) (View Q A)) → Ordered s → (i : ℕ) (v : View Q A) → get_elem? s.views i ≡ some v → Ordered record { words = s.words; homes = s.homes; views = slice_set s.views i v }
+  stays s h i v at = subst (λ (vs : List (View Q A)). Ordered record { words = s.words; homes = s.homes; views = vs }) (sym (set_again s.views i v at)) h
+
+  took_or_not : (s : State (Option S) (View Q A)) (h : Ordered s) (i : ℕ) (v : View Q A) (old : ℕ) → get_elem? s.views i ≡ some v → HasChair v → v.ticket ≡ None → v.has_turn ≡ false → suc old < 2 ^ 64
+      → (b : Bool) → (h.book.ticket == old) ≡ b
+      → (w : View Q A) × (a : Act (Option S)) × Valid s.homes [] a × Ordered (stepped record { words = h.book.ticket ∷ h.book.serving ∷ []; homes = s.homes; views = s.views } 0 (either (h.book.ticket == old) (old + 1) h.book.ticket) i [] w a)
+        × TookTicket (step 1 0 old (old + 1) none) (v, []) h.book.ticket (w, carried_after [] a)
+  took_or_not s h i v old at seat none idle room true is =
+      let same : h.book.ticket ≡ old = grind (arith, nat_tests) in (
+        with_ticket v (Some h.book.ticket),
+        keeps,
+        tt,
+        rw is (subst (λ n. Ordered record { words = n ∷ h.book.serving ∷ []; homes = s.homes; views = slice_set s.views i (with_ticket v (Some h.book.ticket)) }) (omega (arith, same)) (took s h i v at seat none idle (omega (arith, same, room)))),
+        rw is refl,
+      )
+  took_or_not s h i v old at seat none idle room false is = (
+      v,
+      keeps,
+      tt,
+      rw is (subst (λ (ws : List ℕ). Ordered record { words = ws; homes = s.homes; views = slice_set s.views i v }) h.words (stays s h i v at)),
+      rw is (ap (λ t. (with_ticket v t, [])) none),
+    )
+
+  pub takes_ticket : (i : ℕ) (v : View Q A) (old : ℕ) → HasChair v → v.ticket ≡ None → v.has_turn ≡ false → suc old < 2 ^ 64
+      → Allows Ordered 1 i (v, []) 0 (λ n. either (n == old) (old + 1) n) (TookTicket (step 1 0 old (old + 1) none) (v, []))
+  takes_ticket i v old seat none idle room s h len at lt =
+      let P : List ℕ → Type 0 = λ ws. (w : View Q A) × (a : Act (Option S)) × Valid s.homes [] a × Ordered (stepped record { words = ws; homes = s.homes; views = s.views } 0 (either (slice_index ws 0 == old) (old + 1) (slice_index ws 0)) i [] w a)
+        × TookTicket (step 1 0 old (old + 1) none) (v, []) (slice_index ws 0) (w, carried_after [] a) in
+      subst P (sym h.words) (took_or_not s h i v old at seat none idle room (h.book.ticket == old) refl)
