@@ -70,7 +70,7 @@ module _ {Q A : Type 0} where
   seats_of : (count : ℕ) (v : View Q A) → HasChair v → (v ≡ spent) ⊎ (v.seats ≡ count) → v.seats ≡ count
   seats_of count v h s = ⊎_elim (λ e. absurd (not_spent v h e)) (λ e. e) s
 
-number_in : Option ℕ → ℕ
+abbrev number_in : Option ℕ → ℕ
 number_in None = 0
 number_in (Some n) = n
 
@@ -89,7 +89,7 @@ module _ {S Q A : Type 0} (M : Meaning S Q A) (start : S) (count : ℕ) where
   -- a view that has a ticket is the one that has it
   held_else : (s : State (Option S) (View Q A)) (h : Ordered s) (i : ℕ) (v : View Q A) → get_elem? s.views i ≡ some v → (n : ℕ) → v.ticket ≢ Some n
       → (u : View Q A) → get_elem? s.views (h.book.ticket_at n) ≡ some u → u.ticket ≡ Some n → h.book.ticket_at n ≢ i
-  held_else s h i v at n none u there has same = none (ap (λ w. w.ticket) (sym (same_at s.views _ _ u v there at same)) ∙ has)
+  held_else s h i v at n lacks u there has same = lacks (ap (λ w. w.ticket) (sym (same_at s.views _ _ u v there at same)) ∙ has)
 
   none_some : (v : View Q A) (n : ℕ) → v.ticket ≡ None → v.ticket ≢ Some n
   none_some v n a b = absurd (cc)
@@ -116,7 +116,7 @@ module _ {S Q A : Type 0} (M : Meaning S Q A) (start : S) (count : ℕ) where
 
   took : (s : State (Option S) (View Q A)) (h : Ordered s) (i : ℕ) (v : View Q A) → get_elem? s.views i ≡ some v → HasChair v → v.ticket ≡ None → v.has_turn ≡ false → suc h.book.ticket < 2 ^ 64
       → Ordered record { words = suc h.book.ticket ∷ h.book.serving ∷ []; homes = s.homes; views = slice_set s.views i (with_ticket v (Some h.book.ticket)) }
-  took s h i v at seat none idle room =
+  took s h i v at seat free idle room =
       let b = h.book in
       let w = with_ticket v (Some b.ticket) in
       let mine = h.fits i v at in
@@ -139,7 +139,7 @@ module _ {S Q A : Type 0} (M : Meaning S Q A) (start : S) (count : ℕ) where
             (λ e. (w, subst (λ j. get_elem? (set s.views i w) j ≡ some w) (sym (ticket_here b i n e)) (set_here s.views i w (at_below s.views i v at)), ap Some (sym e)))
             (λ ne.
               let a = h.held n from (omega (arith, to, ne)) in
-              let apart = held_else s h i v at n (none_some v n none) a.0 a.1 a.2 in
+              let apart = held_else s h i v at n (none_some v n free) a.0 a.1 a.2 in
               (a.0, subst (λ j. get_elem? (set s.views i w) j ≡ some a.0) (sym (ticket_else b i n ne)) (set_else s.views i _ w apart ∙ a.1), a.2));
         made = h.made;
         callers = h.callers;
@@ -174,29 +174,174 @@ module _ {S Q A : Type 0} (M : Meaning S Q A) (start : S) (count : ℕ) where
   stays : (s : State (Option S) (View Q A)) → Ordered s → (i : ℕ) (v : View Q A) → get_elem? s.views i ≡ some v → Ordered record { words = s.words; homes = s.homes; views = slice_set s.views i v }
   stays s h i v at = subst (λ (vs : List (View Q A)). Ordered record { words = s.words; homes = s.homes; views = vs }) (sym (set_again s.views i v at)) h
 
-  took_or_not : (s : State (Option S) (View Q A)) (h : Ordered s) (i : ℕ) (v : View Q A) (old : ℕ) → get_elem? s.views i ≡ some v → HasChair v → v.ticket ≡ None → v.has_turn ≡ false → suc old < 2 ^ 64
+  took_or_not : (slots : ℕ) (s : State (Option S) (View Q A)) (h : Ordered s) (i : ℕ) (me : Me (Option S) (View Q A)) (old : ℕ) → get_elem? s.views i ≡ some me.0 → HasChair me.0 → me.0.ticket ≡ None → me.0.has_turn ≡ false → old + 1 < 2 ^ 64
       → (b : Bool) → (h.book.ticket == old) ≡ b
-      → (w : View Q A) × (a : Act (Option S)) × Valid s.homes [] a × Ordered (stepped record { words = h.book.ticket ∷ h.book.serving ∷ []; homes = s.homes; views = s.views } 0 (either (h.book.ticket == old) (old + 1) h.book.ticket) i [] w a)
-        × TookTicket (step 1 0 old (old + 1) none) (v, []) h.book.ticket (w, carried_after [] a)
-  took_or_not s h i v old at seat none idle room true is =
+      → (w : View Q A) × (a : Act (Option S)) × Valid s.homes me.1 a × Ordered (stepped record { words = h.book.ticket ∷ h.book.serving ∷ []; homes = s.homes; views = s.views } 0 (either (h.book.ticket == old) (old + 1) h.book.ticket) i me.1 w a)
+        × TookTicket (step slots 0 old (old + 1) none) me h.book.ticket (w, carried_after me.1 a)
+  took_or_not slots s h i me old at seat free idle room true is =
       let same : h.book.ticket ≡ old = grind (arith, nat_tests) in (
-        with_ticket v (Some h.book.ticket),
+        with_ticket me.0 (Some h.book.ticket),
         keeps,
         tt,
-        rw is (subst (λ n. Ordered record { words = n ∷ h.book.serving ∷ []; homes = s.homes; views = slice_set s.views i (with_ticket v (Some h.book.ticket)) }) (omega (arith, same)) (took s h i v at seat none idle (omega (arith, same, room)))),
+        rw is (subst (λ (n : ℕ). Ordered record { words = n ∷ h.book.serving ∷ []; homes = s.homes; views = slice_set s.views i (with_ticket me.0 (Some h.book.ticket)) }) (omega (arith, same)) (took s h i me.0 at seat free idle (omega (arith, same, room)))),
         rw is refl,
       )
-  took_or_not s h i v old at seat none idle room false is = (
-      v,
+  took_or_not slots s h i me old at seat free idle room false is = (
+      me.0,
       keeps,
       tt,
-      rw is (subst (λ (ws : List ℕ). Ordered record { words = ws; homes = s.homes; views = slice_set s.views i v }) h.words (stays s h i v at)),
-      rw is (ap (λ t. (with_ticket v t, [])) none),
+      rw is (subst (λ (ws : List ℕ). Ordered record { words = ws; homes = s.homes; views = slice_set s.views i me.0 }) h.words (stays s h i me.0 at)),
+      rw is (λ k. (with_ticket me.0 (free k), me.1)),
     )
 
-  pub takes_ticket : (i : ℕ) (v : View Q A) (old : ℕ) → HasChair v → v.ticket ≡ None → v.has_turn ≡ false → suc old < 2 ^ 64
-      → Allows Ordered 1 i (v, []) 0 (λ n. either (n == old) (old + 1) n) (TookTicket (step 1 0 old (old + 1) none) (v, []))
-  takes_ticket i v old seat none idle room s h len at lt =
-      let P : List ℕ → Type 0 = λ ws. (w : View Q A) × (a : Act (Option S)) × Valid s.homes [] a × Ordered (stepped record { words = ws; homes = s.homes; views = s.views } 0 (either (slice_index ws 0 == old) (old + 1) (slice_index ws 0)) i [] w a)
-        × TookTicket (step 1 0 old (old + 1) none) (v, []) (slice_index ws 0) (w, carried_after [] a) in
-      subst P (sym h.words) (took_or_not s h i v old at seat none idle room (h.book.ticket == old) refl)
+  pub takes_ticket : (slots i : ℕ) (me : Me (Option S) (View Q A)) (old : ℕ) → HasChair me.0 → me.0.ticket ≡ None → me.0.has_turn ≡ false → old + 1 < 2 ^ 64
+      → Allows Ordered slots i me 0 (λ n. either (n == old) (old + 1) n) (TookTicket (step slots 0 old (old + 1) none) me)
+  takes_ticket slots i me old seat free idle room s h len at lt =
+      let P : List ℕ → Type 0 = λ ws. (w : View Q A) × (a : Act (Option S)) × Valid s.homes me.1 a × Ordered (stepped record { words = ws; homes = s.homes; views = s.views } 0 (either (slice_index ws 0 == old) (old + 1) (slice_index ws 0)) i me.1 w a)
+        × TookTicket (step slots 0 old (old + 1) none) me (slice_index ws 0) (w, carried_after me.1 a) in
+      subst P (sym h.words) (took_or_not slots s h i me old at seat free idle room (h.book.ticket == old) refl)
+
+  -- LOAD SERVING
+
+  held_kept : (s : State (Option S) (View Q A)) (h : Ordered s) (i : ℕ) (v w : View Q A) → get_elem? s.views i ≡ some v → w.ticket ≡ v.ticket → (n : ℕ) → h.book.serving ≤ n → n < h.book.ticket
+      → (u : View Q A) × (get_elem? (set s.views i w) (h.book.ticket_at n) ≡ some u) × (u.ticket ≡ Some n)
+  held_kept s h i v w at same n from to =
+      let a = h.held n from to in
+      dite (ℕ_discrete (h.book.ticket_at n) i)
+      (λ e. (w, subst (λ j. get_elem? (set s.views i w) j ≡ some w) (sym e) (set_here s.views i w (at_below s.views i v at)), same ∙ ap (λ x. x.ticket) (sym (same_at s.views _ _ a.0 v a.1 at e)) ∙ a.2))
+      (λ ne. (a.0, set_else s.views i _ w ne ∙ a.1, a.2))
+
+  looked_only : (s : State (Option S) (View Q A)) (h : Ordered s) (i : ℕ) (v : View Q A) → get_elem? s.views i ≡ some v → HasChair v → v.has_turn ≡ false
+      → Ordered record { words = h.book.ticket ∷ h.book.serving ∷ []; homes = s.homes; views = slice_set s.views i (looked v h.book.log false) }
+  looked_only s h i v at seat idle =
+      let b = h.book in
+      let w = looked v b.log false in
+      let mine = h.fits i v at in
+      record {
+        book = b;
+        words = refl;
+        below = h.below;
+        order = h.order;
+        legal = h.legal;
+        served = h.served;
+        home = h.home;
+        away = λ out. let a = h.away out in (a.0, (a.1.0, set_else s.views i _ w (away_else s h i v at idle a.1.0 a.1.1 a.1.2) ∙ a.1.1, a.1.2));
+        held = held_kept s h i v w at refl;
+        made = h.made;
+        callers = h.callers;
+        fits = set_each (Fits count b) s.views i w (λ j u ne e. h.fits j u e) record {
+          seen = starts_whole b.log;
+          heard = tt;
+          chairs = mine.chairs;
+          ticket = mine.ticket;
+          unseated = mine.unseated;
+          turn = λ t. absurd (off t);
+          making = mine.making;
+          seats = inr (seats_of count v seat mine.seats);
+        };
+      }
+
+  is_in : (s : State (Option S) (View Q A)) (h : Ordered s) (i : ℕ) (v : View Q A) → get_elem? s.views i ≡ some v → v.has_turn ≡ false → v.ticket ≡ Some h.book.serving → (o : Bool) → h.book.out ≡ o → h.book.out ≡ false
+  is_in s h i v at idle has false is = is
+  is_in s h i v at idle has true is =
+      let a = h.away is in
+      absurd (away_else s h i v at idle a.1.0 a.1.1 a.1.2 (((h.fits i v at).ticket h.book.serving has).2))
+
+  abbrev begun : Book Q A → Book Q A
+  begun b = record { ticket = b.ticket; serving = b.serving; log = b.log; made = b.made; maker = b.maker; out = true; ticket_at = b.ticket_at; chair_at = b.chair_at }
+
+  began : (s : State (Option S) (View Q A)) (h : Ordered s) (i : ℕ) (v : View Q A) (object : S) → get_elem? s.views i ≡ some v → HasChair v → v.has_turn ≡ false → v.ticket ≡ Some h.book.serving → s.homes ≡ some (Some object) ∷ []
+      → Ordered record { words = h.book.ticket ∷ h.book.serving ∷ []; homes = slice_set s.homes 0 none; views = slice_set s.views i (looked v h.book.log true) }
+  began s h i v object at seat idle has home =
+      let b = h.book in
+      let w = looked v b.log true in
+      let mine = h.fits i v at in
+      record {
+        book = begun b;
+        words = refl;
+        below = h.below;
+        order = h.order;
+        legal = h.legal;
+        served = h.served;
+        home = λ out. absurd (true≢false out);
+        away = λ out. (
+          ap (λ (hs : List (mathlib.Core.Option.Option (Option S))). slice_set hs 0 none) home,
+          (w, subst (λ j. get_elem? (set s.views i w) j ≡ some w) (sym ((mine.ticket b.serving has).2)) (set_here s.views i w (at_below s.views i v at)), refl),
+        );
+        held = held_kept s h i v w at refl;
+        made = h.made;
+        callers = h.callers;
+        fits = set_each (Fits count (begun b)) s.views i w
+            (λ j u ne e.
+              let f = h.fits j u e in
+              record {
+                seen = f.seen;
+                heard = f.heard;
+                chairs = f.chairs;
+                ticket = f.ticket;
+                unseated = f.unseated;
+                turn = λ t. let g = f.turn t in (refl, g.1, g.2);
+                making = f.making;
+                seats = f.seats;
+              })
+            record {
+              seen = starts_whole b.log;
+              heard = tt;
+              chairs = mine.chairs;
+              ticket = mine.ticket;
+              unseated = mine.unseated;
+              turn = λ t. (refl, has, refl);
+              making = mine.making;
+              seats = inr (seats_of count v seat mine.seats);
+            };
+      }
+
+  ticket_is : (o : Option ℕ) (n : ℕ) → is_ticket o n ≡ true → o ≡ Some n
+  ticket_is None n e = absurd (off e)
+  ticket_is (Some t) n e = let same : t ≡ n = grind (arith, nat_tests) in ap Some same
+
+  module _ (legal : List (Entry Q A) → Type 0) (reached : List (Entry Q A) → S → Type 0) (is_legal : (log : List (Entry Q A)) → IsLegal M start log → legal log) (is_reached : (log : List (Entry Q A)) (object : S) → Reaches M start log object → reached log object) where
+    look_now : (s : State (Option S) (View Q A)) (h : Ordered s) (i : ℕ) (me : Me (Option S) (View Q A)) → get_elem? s.views i ≡ some me.0 → HasChair me.0 → me.0.has_turn ≡ false
+        → (b : Bool) → is_ticket me.0.ticket h.book.serving ≡ b
+        → (w : View Q A) × (a : Act (Option S)) × Valid s.homes me.1 a × Ordered (stepped record { words = h.book.ticket ∷ h.book.serving ∷ []; homes = s.homes; views = s.views } 1 h.book.serving i me.1 w a)
+          × Looked legal reached me h.book.serving (w, carried_after me.1 a)
+    look_now s h i me at seat idle false is =
+        let mine = h.fits i me.0 at in (
+          looked me.0 h.book.log false,
+          keeps,
+          tt,
+          looked_only s h i me.0 at seat idle,
+          record {
+            seen = h.book.log;
+            count = h.served;
+            is_legal = is_legal h.book.log h.legal;
+            mine = mine.seen;
+            heard = mine.heard;
+            own = every_map (ChairFits h.book.made h.book.chair_at h.book.log i) _ (λ c f. f.own) me.0.chairs mine.chairs;
+            turn = rw is refl;
+          },
+        )
+    look_now s h i me at seat idle true is =
+        let mine = h.fits i me.0 at in
+        let has = ticket_is me.0.ticket h.book.serving is in
+        let home = h.home (is_in s h i me.0 at idle has h.book.out refl) in (
+          looked me.0 h.book.log true,
+          takes 0 (Some home.0),
+          ap (λ (hs : List (mathlib.Core.Option.Option (Option S))). get_elem? hs 0) home.1,
+          began s h i me.0 home.0 at seat idle has home.1,
+          record {
+            seen = h.book.log;
+            count = h.served;
+            is_legal = is_legal h.book.log h.legal;
+            mine = mine.seen;
+            heard = mine.heard;
+            own = every_map (ChairFits h.book.made h.book.chair_at h.book.log i) _ (λ c f. f.own) me.0.chairs mine.chairs;
+            turn = rw is (home.0, refl, is_reached h.book.log home.0 home.2);
+          },
+        )
+
+    pub looks : (slots i : ℕ) (me : Me (Option S) (View Q A)) → HasChair me.0 → me.0.has_turn ≡ false → Allows Ordered slots i me 1 (λ n. n) (Looked legal reached me)
+    looks slots i me seat idle s h len at lt =
+        let P : List ℕ → Type 0 = λ ws. (w : View Q A) × (a : Act (Option S)) × Valid s.homes me.1 a × Ordered (stepped record { words = ws; homes = s.homes; views = s.views } 1 (slice_index ws 1) i me.1 w a)
+          × Looked legal reached me (slice_index ws 1) (w, carried_after me.1 a) in
+        subst P (sym h.words) (look_now s h i me at seat idle (is_ticket me.0.ticket h.book.serving) refl)
