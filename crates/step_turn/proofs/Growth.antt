@@ -58,7 +58,7 @@ module _ {S Q A : Type 0} (M : Meaning S Q A) where
       numbered = numbered-append 0 log more r.numbered (subst (λ m. Numbered m more) (omega arith) numbered);
       counted = counted-append (M.faults start) log more (M.faults old) (M.faults new) r.counted counted;
       replays = λ told.
-        let before = r.replays told in
-        let after = leads before.0 before.1.0 before.1.2 in
-        (after.0, (after.1.0, replays-append (running (M.state start)) log more before.1.0 after.1.0 before.1.1 after.1.1, after.1.2));
+          let before = r.replays told in
+          let after = leads before.0 before.1.0 before.1.2 in
+          (after.0, (after.1.0, replays-append (running (M.state start)) log more before.1.0 after.1.0 before.1.1 after.1.1, after.1.2));
     }

@@ -2,6 +2,7 @@
 use Rattle.std.proofs.Common.{◌≡◌, ◌≢◌, ◌⊎◌, ℕ, zero, suc, ◌+◌, ◌-◌, ◌%◌, ◌^◌, ◌≤◌, ◌<◌, ◌==◌, ◌++◌, Bool, true, false, cond, List, [], ◌∷◌, length, set, refl, sym, ap, ◌∙◌, subst, inl, inr, ⊎_elim, true≢false, arith, rules, append_assoc, eqb, eq-eqb, ne_eqb}
 use Rattle.std.specs.Prelude.{Option, Some, None, slice_index, slice_set, MatchBool}
 use Rattle.std.proofs.lemmas.List.{append-nil}
+use Rattle.std.proofs.Math.Nat.{mod-eq_of_lt}
 use mathlib.Core.Option.{some, none, some-ne-none, some-injective}
 use mathlib.Core.Logic.{dite}
 use native.Mathlib.Decide.{ℕ_discrete}
@@ -13,7 +14,7 @@ use Rattle.atomic_table.proofs.Lists.{at_set, at_snoc, at_last, at_longer, set_a
 use Rattle.step_turn.specs.Meaning.{Meaning}
 use Rattle.step_turn.specs.Histories.{calls, call_count, made_by, turn_of, Every, Among, StartsWith, IsLegal, Reaches}
 use Rattle.step_turn.specs.Order as order
-use Rattle.step_turn.specs.Order.{chair, spent, making, maker, seated, noted, left_of, right_of, longer, joined, with_ticket, looked, with_call, served, Book, ChairFits, Fits, IsOrdered, HasChair, is_ticket, TookTicket, Looked, Advanced}
+use Rattle.step_turn.specs.Order.{chair, spent, making, maker, seated, noted, left_of, right_of, longer, joined, with_ticket, looked, with_call, served, Book, ChairFits, Fits, IsOrdered, HasChair, is_ticket, Waits, TookTicket, Looked, Advanced}
 use Rattle.step_turn.specs.declared.entry.Call.{Call}
 use Rattle.step_turn.specs.declared.entry.Entry.{Entry}
 use Rattle.step_turn.specs.declared.view.Chair.{Chair}
@@ -129,40 +130,40 @@ module _ {S Q A : Type 0} (M : Meaning S Q A) (start : S) (count : ℕ) where
         served = h.served;
         home = h.home;
         away = λ out.
-          let a = h.away out in
-          let turned = (h.fits _ a.1.0 a.1.1).turn a.1.2 in
-          let within = (h.fits _ a.1.0 a.1.1).ticket b.serving turned.1 in
-          let place = ticket_else b i b.serving (λ e. absurd (omega (arith, within.1, e))) in
-          let apart = away_else s h i v at idle a.1.0 a.1.1 a.1.2 in
-          (a.0, (a.1.0, subst (λ j. get_elem? (set s.views i w) j ≡ some a.1.0) (sym place) (set_else s.views i _ w apart ∙ a.1.1), a.1.2));
+            let a = h.away out in
+            let turned = (h.fits _ a.1.0 a.1.1).turn a.1.2 in
+            let within = (h.fits _ a.1.0 a.1.1).ticket b.serving turned.1 in
+            let place = ticket_else b i b.serving (λ e. absurd (omega (arith, within.1, e))) in
+            let apart = away_else s h i v at idle a.1.0 a.1.1 a.1.2 in
+            (a.0, (a.1.0, subst (λ j. get_elem? (set s.views i w) j ≡ some a.1.0) (sym place) (set_else s.views i _ w apart ∙ a.1.1), a.1.2));
         held = λ n from to. dite (ℕ_discrete n b.ticket)
             (λ e. (w, subst (λ j. get_elem? (set s.views i w) j ≡ some w) (sym (ticket_here b i n e)) (set_here s.views i w (at_below s.views i v at)), ap Some (sym e)))
             (λ ne.
-              let a = h.held n from (omega (arith, to, ne)) in
-              let apart = held_else s h i v at n (none_some v n free) a.0 a.1 a.2 in
-              (a.0, subst (λ j. get_elem? (set s.views i w) j ≡ some a.0) (sym (ticket_else b i n ne)) (set_else s.views i _ w apart ∙ a.1), a.2));
+            let a = h.held n from (omega (arith, to, ne)) in
+            let apart = held_else s h i v at n (none_some v n free) a.0 a.1 a.2 in
+            (a.0, subst (λ j. get_elem? (set s.views i w) j ≡ some a.0) (sym (ticket_else b i n ne)) (set_else s.views i _ w apart ∙ a.1), a.2));
         made = h.made;
         callers = h.callers;
         fits = set_each (Fits count (ticketed b i)) s.views i w
             (λ j u ne e.
-              let f = h.fits j u e in
-              record {
-                seen = f.seen;
-                heard = f.heard;
-                chairs = f.chairs;
-                ticket = λ t has. let g = f.ticket t has in (g.0, omega (arith, g.1), ticket_else b i t (λ e'. absurd (omega (arith, g.1, e'))) ∙ g.2);
-                unseated = f.unseated;
-                turn = f.turn;
-                making = f.making;
-                seats = f.seats;
-              })
+            let f = h.fits j u e in
+            record {
+              seen = f.seen;
+              heard = f.heard;
+              chairs = f.chairs;
+              ticket = λ t has. let g = f.ticket t has in (g.0, omega (arith, g.1), ticket_else b i t (λ e'. absurd (omega (arith, g.1, e'))) ∙ g.2);
+              unseated = f.unseated;
+              turn = f.turn;
+              making = f.making;
+              seats = f.seats;
+            })
             record {
               seen = mine.seen;
               heard = mine.heard;
               chairs = mine.chairs;
               ticket = λ t has.
-                let e : b.ticket ≡ t = some_same b.ticket t has in
-                (subst (λ n. b.serving ≤ n) e h.order, omega (arith, e), ticket_here b i t (sym e));
+                  let e : b.ticket ≡ t = some_same b.ticket t has in
+                  (subst (λ n. b.serving ≤ n) e h.order, omega (arith, e), ticket_here b i t (sym e));
               unseated = λ e. absurd (no_chairs v seat e);
               turn = λ t. absurd (off (sym idle ∙ t));
               making = mine.making;
@@ -177,7 +178,7 @@ module _ {S Q A : Type 0} (M : Meaning S Q A) (start : S) (count : ℕ) where
   took_or_not : (slots : ℕ) (s : State (Option S) (View Q A)) (h : Ordered s) (i : ℕ) (me : Me (Option S) (View Q A)) (old : ℕ) → get_elem? s.views i ≡ some me.0 → HasChair me.0 → me.0.ticket ≡ None → me.0.has_turn ≡ false → old + 1 < 2 ^ 64
       → (b : Bool) → (h.book.ticket == old) ≡ b
       → (w : View Q A) × (a : Act (Option S)) × Valid s.homes me.1 a × Ordered (stepped record { words = h.book.ticket ∷ h.book.serving ∷ []; homes = s.homes; views = s.views } 0 (either (h.book.ticket == old) (old + 1) h.book.ticket) i me.1 w a)
-        × TookTicket (step slots 0 old (old + 1) none) me h.book.ticket (w, carried_after me.1 a)
+      × TookTicket (step slots 0 old (old + 1) none) me h.book.ticket (w, carried_after me.1 a)
   took_or_not slots s h i me old at seat free idle room true is =
       let same : h.book.ticket ≡ old = grind (arith, nat_tests) in (
         with_ticket me.0 (Some h.book.ticket),
@@ -187,18 +188,18 @@ module _ {S Q A : Type 0} (M : Meaning S Q A) (start : S) (count : ℕ) where
         rw is refl,
       )
   took_or_not slots s h i me old at seat free idle room false is = (
-      me.0,
-      keeps,
-      tt,
-      rw is (subst (λ (ws : List ℕ). Ordered record { words = ws; homes = s.homes; views = slice_set s.views i me.0 }) h.words (stays s h i me.0 at)),
-      rw is (λ k. (with_ticket me.0 (free k), me.1)),
-    )
+    me.0,
+    keeps,
+    tt,
+    rw is (subst (λ (ws : List ℕ). Ordered record { words = ws; homes = s.homes; views = slice_set s.views i me.0 }) h.words (stays s h i me.0 at)),
+    rw is (λ k. (with_ticket me.0 (free k), me.1)),
+  )
 
   pub takes_ticket : (slots i : ℕ) (me : Me (Option S) (View Q A)) (old : ℕ) → HasChair me.0 → me.0.ticket ≡ None → me.0.has_turn ≡ false → old + 1 < 2 ^ 64
       → Allows Ordered slots i me 0 (λ n. either (n == old) (old + 1) n) (TookTicket (step slots 0 old (old + 1) none) me)
   takes_ticket slots i me old seat free idle room s h len at lt =
       let P : List ℕ → Type 0 = λ ws. (w : View Q A) × (a : Act (Option S)) × Valid s.homes me.1 a × Ordered (stepped record { words = ws; homes = s.homes; views = s.views } 0 (either (slice_index ws 0 == old) (old + 1) (slice_index ws 0)) i me.1 w a)
-        × TookTicket (step slots 0 old (old + 1) none) me (slice_index ws 0) (w, carried_after me.1 a) in
+      × TookTicket (step slots 0 old (old + 1) none) me (slice_index ws 0) (w, carried_after me.1 a) in
       subst P (sym h.words) (took_or_not slots s h i me old at seat free idle room (h.book.ticket == old) refl)
 
   -- LOAD SERVING
@@ -273,17 +274,17 @@ module _ {S Q A : Type 0} (M : Meaning S Q A) (start : S) (count : ℕ) where
         callers = h.callers;
         fits = set_each (Fits count (begun b)) s.views i w
             (λ j u ne e.
-              let f = h.fits j u e in
-              record {
-                seen = f.seen;
-                heard = f.heard;
-                chairs = f.chairs;
-                ticket = f.ticket;
-                unseated = f.unseated;
-                turn = λ t. let g = f.turn t in (refl, g.1, g.2);
-                making = f.making;
-                seats = f.seats;
-              })
+            let f = h.fits j u e in
+            record {
+              seen = f.seen;
+              heard = f.heard;
+              chairs = f.chairs;
+              ticket = f.ticket;
+              unseated = f.unseated;
+              turn = λ t. let g = f.turn t in (refl, g.1, g.2);
+              making = f.making;
+              seats = f.seats;
+            })
             record {
               seen = starts_whole b.log;
               heard = tt;
@@ -304,7 +305,7 @@ module _ {S Q A : Type 0} (M : Meaning S Q A) (start : S) (count : ℕ) where
     look_now : (s : State (Option S) (View Q A)) (h : Ordered s) (i : ℕ) (me : Me (Option S) (View Q A)) → get_elem? s.views i ≡ some me.0 → HasChair me.0 → me.0.has_turn ≡ false
         → (b : Bool) → is_ticket me.0.ticket h.book.serving ≡ b
         → (w : View Q A) × (a : Act (Option S)) × Valid s.homes me.1 a × Ordered (stepped record { words = h.book.ticket ∷ h.book.serving ∷ []; homes = s.homes; views = s.views } 1 h.book.serving i me.1 w a)
-          × Looked legal reached me h.book.serving (w, carried_after me.1 a)
+        × Looked legal reached me h.book.serving (w, carried_after me.1 a)
     look_now s h i me at seat idle false is =
         let mine = h.fits i me.0 at in (
           looked me.0 h.book.log false,
@@ -343,5 +344,171 @@ module _ {S Q A : Type 0} (M : Meaning S Q A) (start : S) (count : ℕ) where
     pub looks : (slots i : ℕ) (me : Me (Option S) (View Q A)) → HasChair me.0 → me.0.has_turn ≡ false → Allows Ordered slots i me 1 (λ n. n) (Looked legal reached me)
     looks slots i me seat idle s h len at lt =
         let P : List ℕ → Type 0 = λ ws. (w : View Q A) × (a : Act (Option S)) × Valid s.homes me.1 a × Ordered (stepped record { words = ws; homes = s.homes; views = s.views } 1 (slice_index ws 1) i me.1 w a)
-          × Looked legal reached me (slice_index ws 1) (w, carried_after me.1 a) in
+        × Looked legal reached me (slice_index ws 1) (w, carried_after me.1 a) in
         subst P (sym h.words) (look_now s h i me at seat idle (is_ticket me.0.ticket h.book.serving) refl)
+
+  -- ADVANCE SERVING
+
+  abbrev advanced : Book Q A → List (Entry Q A) → Book Q A
+  advanced b es = record { ticket = b.ticket; serving = suc b.serving; log = b.log ++ es; made = b.made; maker = b.maker; out = false; ticket_at = b.ticket_at; chair_at = b.chair_at }
+
+  count_turn : (r : Option (ℕ × ℕ)) (c : Call Q A) → call_count (turn_of r c) ≡ 1
+  count_turn None c = refl
+  count_turn (Some counts) c = refl
+
+  calls_turn : (r : Option (ℕ × ℕ)) (c : Call Q A) → calls (turn_of r c) ≡ c ∷ []
+  calls_turn None c = refl
+  calls_turn (Some counts) c = refl
+
+  made_turn : (n : ℕ) (r : Option (ℕ × ℕ)) (c : Call Q A) → made_by n (turn_of r c) ≡ cond (c.seat == n) (c ∷ []) []
+  made_turn n None c = refl
+  made_turn n (Some counts) c = refl
+
+  made_else : (n : ℕ) (log : List (Entry Q A)) (r : Option (ℕ × ℕ)) (c : Call Q A) → c.seat ≢ n → made_by n (log ++ turn_of r c) ≡ made_by n log
+  made_else n log r c ne =
+      made_by-append n log (turn_of r c) ∙ ap (λ l. made_by n log ++ l) (made_turn n r c ∙ ap (λ b. cond b (c ∷ []) []) (ne_eqb c.seat n ne)) ∙ append-nil (made_by n log)
+
+  made_more : (n : ℕ) (log : List (Entry Q A)) (r : Option (ℕ × ℕ)) (c : Call Q A) → c.seat ≡ n → made_by n (log ++ turn_of r c) ≡ made_by n log ++ c ∷ []
+  made_more n log r c e =
+      made_by-append n log (turn_of r c) ∙ ap (λ l. made_by n log ++ l) (made_turn n r c ∙ ap (λ b. cond b (c ∷ []) []) (eq-eqb c.seat n e))
+
+  -- the one chair of the seat that ends its turn
+  my_chair : (s : State (Option S) (View Q A)) (h : Ordered s) (i : ℕ) (v : View Q A) → get_elem? s.views i ≡ some v → (seat : HasChair v) → ChairFits h.book.made h.book.chair_at h.book.log i seat.0
+  my_chair s h i v at seat = (subst (Every (ChairFits h.book.made h.book.chair_at h.book.log i)) seat.1 (h.fits i v at).chairs).0
+
+  module _ (s : State (Option S) (View Q A)) (h : Ordered s) (i : ℕ) (v : View Q A) (object : S) (r : Option (ℕ × ℕ)) (c : Call Q A) (at : get_elem? s.views i ≡ some v) (seat : HasChair v) (has : v.has_turn ≡ true)
+      (by : c.seat ≡ seat.0.number) (reaches : Reaches M start (h.book.log ++ turn_of r c) object) where
+    my_ticket : (h.book.serving < h.book.ticket) × (h.book.ticket_at h.book.serving ≡ i)
+    my_ticket = let t = (h.fits i v at).ticket h.book.serving ((h.fits i v at).turn has).1 in (t.1, t.2)
+
+    end_chair : Every (ChairFits h.book.made h.book.chair_at (h.book.log ++ turn_of r c) i) (with_call v.chairs c)
+    end_chair =
+        let f = my_chair s h i v at seat in
+        subst (λ hs. Every (ChairFits h.book.made h.book.chair_at (h.book.log ++ turn_of r c) i) (with_call hs c)) (sym seat.1)
+        (record { was_made = f.was_made; here = f.here; own = made_more seat.0.number h.book.log r c by ∙ ap (λ l. l ++ c ∷ []) f.own }, tt)
+
+    end_others : (j : ℕ) (u : View Q A) → j ≢ i → get_elem? s.views j ≡ some u → Fits count (advanced h.book (turn_of r c)) j u
+    end_others j u ne e =
+        let b = h.book in
+        let f = h.fits j u e in
+        let mine = my_chair s h i v at seat in
+        let turn = my_ticket in
+        record {
+          seen = starts_longer (turn_of r c) b.log u.seen f.seen;
+          heard = every_map (StartsWith b.log) (StartsWith (b.log ++ turn_of r c)) (λ l p. starts_longer (turn_of r c) b.log l p) u.heard f.heard;
+          chairs = every_map (ChairFits b.made b.chair_at b.log j) (ChairFits b.made b.chair_at (b.log ++ turn_of r c) j)
+              (λ k p. record {
+                was_made = p.was_made;
+                here = p.here;
+                own = made_else k.number b.log r c (λ same. ne (sym p.here ∙ ap b.chair_at (sym same ∙ by) ∙ mine.here)) ∙ p.own;
+              }) u.chairs f.chairs;
+          ticket = λ t own.
+              let g = f.ticket t own in
+              let apart : t ≢ b.serving = λ same. ne (sym g.2 ∙ ap b.ticket_at same ∙ turn.1) in
+              (omega (arith, g.0, apart), g.1, g.2);
+          unseated = f.unseated;
+          turn = λ t. absurd (ne (sym ((f.ticket b.serving (f.turn t).1).2) ∙ turn.1));
+          making = f.making;
+          seats = f.seats;
+        }
+
+    ended : s.homes ≡ none ∷ [] → Ordered record {
+      words = h.book.ticket ∷ ((h.book.serving + 1) % 2 ^ 64) ∷ [];
+      homes = slice_set s.homes 0 (some (Some object));
+      views = slice_set s.views i (served v (turn_of r c) c);
+    }
+    ended away =
+        let b = h.book in
+        let w = served v (turn_of r c) c in
+        let mine = h.fits i v at in
+        let turn = my_ticket in
+        record {
+          book = advanced b (turn_of r c);
+          words = λ k. b.ticket ∷ next turn.0 k ∷ [];
+          below = h.below;
+          order = omega (arith, turn.0);
+          legal = reaches-legal M start (b.log ++ turn_of r c) object reaches;
+          served = call_count-append b.log (turn_of r c) ∙ ended_count;
+          home = λ _. (object, ap (λ (hs : List (mathlib.Core.Option.Option (Option S))). slice_set hs 0 (some (Some object))) away, reaches);
+          away = λ out. absurd (off out);
+          held = λ n from to.
+              let a = h.held n (omega (arith, from)) to in
+              let apart = held_else s h i v at n (λ same. let e = some_same b.serving n (sym (mine.turn has).1 ∙ same) in absurd (omega (arith, from, e))) a.0 a.1 a.2 in
+              (a.0, set_else s.views i _ w apart ∙ a.1, a.2);
+          made = h.made;
+          callers = subst (Every (λ (k : Call Q A). k.seat < b.made)) (sym (calls-append b.log (turn_of r c) ∙ ap (λ l. calls b.log ++ l) (calls_turn r c)))
+              (every_append (λ (k : Call Q A). k.seat < b.made) (calls b.log) (c ∷ []) h.callers (subst (λ n. n < b.made) (sym by) (my_chair s h i v at seat).was_made, tt));
+          fits = set_each (Fits count (advanced b (turn_of r c))) s.views i w end_others record {
+            seen = subst (λ l. StartsWith (b.log ++ turn_of r c) (l ++ turn_of r c)) (sym (mine.turn has).2) (starts_whole (b.log ++ turn_of r c));
+            heard = every_map (StartsWith b.log) (StartsWith (b.log ++ turn_of r c)) (λ l p. starts_longer (turn_of r c) b.log l p) v.heard mine.heard;
+            chairs = end_chair;
+            ticket = λ t own. absurd (cc);
+            unseated = λ _. refl;
+            turn = λ t. absurd (off t);
+            making = mine.making;
+            seats = inr (seats_of count v seat mine.seats);
+          };
+        }
+      where
+        next : h.book.serving < h.book.ticket → (h.book.serving + 1) % 2 ^ 64 ≡ suc h.book.serving
+        next lt = mod-eq_of_lt (omega (arith, lt, h.below)) ∙ omega arith
+
+        ended_count : call_count h.book.log + call_count (turn_of r c) ≡ suc h.book.serving
+        ended_count = let e = h.served in let k = count_turn r c in omega (arith, e, k)
+
+  pub advances : (made : Option (ℕ × ℕ) → Call Q A → Type 0) (slots i : ℕ) (me : Me (Option S) (View Q A)) (object : S) (r : Option (ℕ × ℕ)) (c : Call Q A) → (seat : HasChair me.0) → me.0.has_turn ≡ true → me.1 ≡ (0, Some object) ∷ []
+      → c.seat ≡ seat.0.number → Reaches M start (me.0.seen ++ turn_of r c) object → made r c → Allows Ordered slots i me 1 (λ n. (n + 1) % 2 ^ 64) (λ found. Advanced made me)
+  advances made slots i me object r c seat has slot by reaches is_made s h len at lt =
+      let P : List ℕ → Type 0 = λ ws. Ordered record { words = slice_set ws 1 ((slice_index ws 1 + 1) % 2 ^ 64); homes = slice_set s.homes 0 (some (Some object)); views = slice_set s.views i (served me.0 (turn_of r c) c) } in
+      let mine = (h.fits i me.0 at).turn has in
+      let done = ended s h i me.0 object r c at seat has by (subst (λ l. Reaches M start (l ++ turn_of r c) object) mine.2 reaches) (h.away mine.0).0 in (
+        served me.0 (turn_of r c) c,
+        gives,
+        tt,
+        subst (λ (x : List (ℕ × Option S)). Ordered record { words = slice_set s.words 1 ((slice_index s.words 1 + 1) % 2 ^ 64); homes = put_back s.homes x; views = slice_set s.views i (served me.0 (turn_of r c) c) }) (sym slot) (subst P (sym h.words) done),
+        (r, c, is_made, refl),
+      )
+
+-- WAITING
+
+starts_through : {X : Type 0} (xs ys zs : List X) → StartsWith xs ys → StartsWith ys zs → StartsWith xs zs
+starts_through xs ys zs p q = (q.0 ++ p.0, p.1 ∙ ap (λ l. l ++ p.0) q.1 ∙ append_assoc zs q.0 p.0)
+
+module _ {S Q A : Type 0} where
+  pub waits_first : (me : Me (Option S) (View Q A)) → me.0.has_turn ≡ false → Waits me me
+  waits_first me idle = record { view = λ seen t. refl; slots = refl; idle = idle; mine = λ log p. p; heard = λ log p q. q }
+
+  module _ (legal : List (Entry Q A) → Type 0) (reached : List (Entry Q A) → S → Type 0) (old me after : Me (Option S) (View Q A)) (found : ℕ) (w : Waits old me) (l : Looked legal reached me found after) where
+    chairs_same : me.0.chairs ≡ old.0.chairs
+    chairs_same = ap (λ v. v.chairs) (w.view [] false)
+
+    ticket_same : me.0.ticket ≡ old.0.ticket
+    ticket_same = ap (λ v. v.ticket) (w.view [] false)
+
+    -- what a later look tells is told of the seat as it was
+    pub waits_done : Looked legal reached old found after
+    waits_done = record {
+      seen = l.seen;
+      count = l.count;
+      is_legal = l.is_legal;
+      mine = w.mine l.seen l.mine;
+      heard = w.heard l.seen l.mine l.heard;
+      own = subst (Every (λ (h : Chair Q A). made_by h.number l.seen ≡ h.own)) chairs_same l.own;
+      turn = subst (λ (x : Option ℕ × (View Q A × View Q A) × List (ℕ × Option S)). MatchBool (is_ticket x.0 found) ((object : S) × (after ≡ (x.1.0, (0, Some object) ∷ x.2)) × reached l.seen object) (after ≡ (x.1.1, x.2)))
+          (λ k. (ticket_same k, (w.view l.seen true k, w.view l.seen false k), w.slots k)) l.turn;
+    }
+
+    -- the seat still waits where another ticket was found
+    pub waits_on : is_ticket me.0.ticket found ≡ false → Waits old after
+    waits_on other =
+        let e : after ≡ (looked me.0 l.seen false, me.1) = subst (λ b. MatchBool b ((object : S) × (after ≡ (looked me.0 l.seen true, (0, Some object) ∷ me.1)) × reached l.seen object) (after ≡ (looked me.0 l.seen false, me.1))) other l.turn in
+        subst (λ (x : Me (Option S) (View Q A)). Waits old x) (sym e) record {
+          view = λ seen t. w.view seen t;
+          slots = w.slots;
+          idle = refl;
+          mine = λ log p. w.mine log (starts_through log l.seen me.0.seen p l.mine);
+          heard = λ log p q. w.heard log (starts_through log l.seen me.0.seen p l.mine) (every_map (StartsWith l.seen) (StartsWith log) (λ x r. starts_through log l.seen x p r) me.0.heard l.heard);
+        }
+
+pub other_ticket : (o : Option ℕ) (t n : ℕ) → o ≡ Some t → n ≢ t → is_ticket o n ≡ false
+other_ticket o t n e ne = subst (λ x. is_ticket x n ≡ false) (sym e) (ne_eqb t n (λ q. ne (sym q)))

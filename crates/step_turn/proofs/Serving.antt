@@ -46,39 +46,48 @@ module _ {S Q A : Type 0} (M : Meaning S Q A) where
   module _ (start : S) (log : List (Entry Q A)) (seat : ℕ) (asked : Q) (answer : A) where
     pub steps : (old new : S) → Reaches M start log old → M.stopped old ≡ false → (M.tells old → Stepped M old asked answer new) → HasCause M old new answer → IsAdded M start log seat asked answer new
     steps old new r runs stepped cause =
-        let c = made log seat asked answer old new in
-        (None, c, record {
-          number_is = refl;
-          seat_is = refl;
-          asked_is = refl;
-          answer_is = refl;
-          reaches = reaches-append M start log (Called c ∷ []) old new r (refl, tt) (refl, cause.later, cause.failed, refl) (call_leads c old new runs stepped);
-        })
+        let c = made log seat asked answer old new in (
+          None,
+          c,
+          record {
+            number_is = refl;
+            seat_is = refl;
+            asked_is = refl;
+            answer_is = refl;
+            reaches = reaches-append M start log (Called c ∷ []) old new r (refl, tt) (refl, cause.later, cause.failed, refl) (call_leads c old new runs stepped);
+          },
+        )
 
     pub refuses : (old new : S) → Reaches M start log old → M.stopped old ≡ true → (M.tells old → ReopenedSo M old new (Err answer)) → HasCause M old new answer → IsAdded M start log seat asked answer new
     refuses old new r stops refused cause =
-        let c = made log seat asked answer old new in
-        (None, c, record {
-          number_is = refl;
-          seat_is = refl;
-          asked_is = refl;
-          answer_is = refl;
-          reaches = reaches-append M start log (Called c ∷ []) old new r (refl, tt) (refl, cause.later, cause.failed, refl) (refusal_leads c old new stops refused);
-        })
+        let c = made log seat asked answer old new in (
+          None,
+          c,
+          record {
+            number_is = refl;
+            seat_is = refl;
+            asked_is = refl;
+            answer_is = refl;
+            reaches = reaches-append M start log (Called c ∷ []) old new r (refl, tt) (refl, cause.later, cause.failed, refl) (refusal_leads c old new stops refused);
+          },
+        )
 
     pub reopens : (old mid new : S) → Reaches M start log old → M.stopped old ≡ true → (M.tells old → ReopenedSo M old mid (Ok tt)) → M.faults old ≤ M.faults mid → M.stopped mid ≡ false
         → (M.tells mid → Stepped M mid asked answer new) → HasCause M mid new answer → IsAdded M start log seat asked answer new
     reopens old mid new r stops opened later runs stepped cause =
         let c = made log seat asked answer mid new in
-        let counts : ℕ × ℕ = (M.faults old, M.faults mid) in
-        (Some counts, c, record {
-          number_is = refl;
-          seat_is = refl;
-          asked_is = refl;
-          answer_is = refl;
-          reaches = reaches-append M start log (turn_of (Some counts) c) old new r (refl, tt) (refl, later, (refl, cause.later, cause.failed, refl))
-              (λ told s at.
+        let counts : ℕ × ℕ = (M.faults old, M.faults mid) in (
+          Some counts,
+          c,
+          record {
+            number_is = refl;
+            seat_is = refl;
+            asked_is = refl;
+            answer_is = refl;
+            reaches = reaches-append M start log (turn_of (Some counts) c) old new r (refl, tt) (refl, later, (refl, cause.later, cause.failed, refl))
+                (λ told s at.
                 let p = reopening_leads 0 0 old mid stops opened told s at in
                 let q = call_leads c mid new runs stepped p.0 p.1.0 p.1.2 in
                 (q.0, (q.1.0, (p.1.0, p.1.1, q.1.1), q.1.2)));
-        })
+          },
+        )

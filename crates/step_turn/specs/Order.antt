@@ -215,3 +215,11 @@ module _ {S Q A : Type 0} (M : Meaning S Q A) (start : S) where
   -- of some object
   abbrev pub Made : List (Entry Q A) → ℕ → Q → A → Option (ℕ × ℕ) → Call Q A → Type 0
   Made log seat asked answer reopened c = (object : S) × Adds log seat asked answer object reopened c
+
+-- a seat that waits has looked since: it is as it was but for what it has seen, and what is seen of it begins with what was
+pub record Waits {S Q A : Type 0} (old new : Me (Option S) (View Q A)) : Type 0 where
+  pub view : (seen : List (Entry Q A)) (has_turn : Bool) → looked new.0 seen has_turn ≡ looked old.0 seen has_turn
+  pub slots : new.1 ≡ old.1
+  pub idle : new.0.has_turn ≡ false
+  pub mine : (log : List (Entry Q A)) → StartsWith log new.0.seen → StartsWith log old.0.seen
+  pub heard : (log : List (Entry Q A)) → StartsWith log new.0.seen → Every (StartsWith log) new.0.heard → Every (StartsWith log) old.0.heard

@@ -169,12 +169,10 @@ impl<S: Steps> Turn<S> {
         ensures place { (place.new.table_id ≡ place.old.table_id) × (place.new.id ≡ place.old.id) }
         ensures looks { Looked (IsLegal S.meaning self.now.start) (Reaches S.meaning self.now.start) place.old.me ticket place.new.me }
     {
-        let mut found = self.look(place);
         for _ in rt.forever() {
-            if found == ticket {
+            if self.look(place) == ticket {
                 break;
             }
-            found = self.look(place);
         }
     }
 
@@ -225,6 +223,30 @@ impl<S: Steps> Turn<S> {
         self.advance_as::<Brand, Q>(place, question, answer);
     }
 
+    // Takes the object out of the slot.
+    fn take_out(&self, place: &mut Place<S, S::Asked, S::Answer>) -> S
+        requires place { place.old.table_id ≡ self.now.id }
+        requires holds { (object : S) × (place.old.me.1 ≡ (0, Some object) ∷ []) }
+        ensures place { (place.new.table_id ≡ place.old.table_id) × (place.new.id ≡ place.old.id) }
+        ensures object { place.old.me.1 ≡ (0, Some result) ∷ [] }
+        ensures slot { place.new.me ≡ (place.old.me.0, (0, None) ∷ []) }
+    {
+        let slot = self.table.shared.exchange(place, 0, None);
+        let Some(object) = slot else { unreachable!() };
+        object
+    }
+
+    // Gives the object back to the slot.
+    fn put_back(&self, place: &mut Place<S, S::Asked, S::Answer>, object: S)
+        requires place { place.old.table_id ≡ self.now.id }
+        requires vacant { place.old.me.1 ≡ (0, None) ∷ [] }
+        ensures place { (place.new.table_id ≡ place.old.table_id) × (place.new.id ≡ place.old.id) }
+        ensures slot { place.new.me ≡ (place.old.me.0, (0, Some object) ∷ []) }
+    {
+        let slot = self.table.shared.exchange(place, 0, Some(object));
+        let None = slot else { unreachable!() };
+    }
+
     // The object takes its step while the seat has the turn, and the turn ends.
     fn take_turn<Q>(
         &self,
@@ -238,14 +260,11 @@ impl<S: Steps> Turn<S> {
         requires place { (place.old.table_id ≡ self.now.id) × HasChair place.old.me.0 × (place.old.me.0.has_turn ≡ true) }
         requires holds { (object : S) × (place.old.me.1 ≡ (0, Some object) ∷ []) × Reaches S.meaning self.now.start place.old.me.0.seen object }
         ensures place { (place.new.table_id ≡ place.old.table_id) × (place.new.id ≡ place.old.id) }
-        ensures advanced { Advanced (Made S.meaning self.now.start place.old.me.0.seen (first_number place.old.me.0.chairs) (S.asks question.now) result) place.old.me place.new.me }
+        ensures advanced { Advanced (Made S.meaning self.now.start place.old.me.0.seen (first_number place.old.me.0.chairs) (S.asks question.now) result) (place.old.me.0, []) place.new.me }
     {
-        let Some(mut object) = self.table.shared.exchange(place, 0, None) else {
-            unreachable!()
-        };
+        let mut object = self.take_out(place);
         let answer = serve(&mut object, alloc, question);
-        let vacant = self.table.shared.exchange(place, 0, Some(object));
-        let None = vacant else { unreachable!() };
+        self.put_back(place, object);
         self.advance(place, question, &answer);
         answer
     }
