@@ -21,7 +21,7 @@ use Rattle.step_turn.specs.declared.view.Chair.{Chair}
 use Rattle.step_turn.specs.declared.view.View.{View}
 use Rattle.step_turn.proofs.Growth.{call_count-append, calls-append, made_by-append, reaches-legal}
 
-off : false ≡ true → ⊥
+pub off : false ≡ true → ⊥
 off e = true≢false (sym e)
 
 -- lists
@@ -68,7 +68,7 @@ module _ {Q A : Type 0} where
   no_chairs : (v : View Q A) → HasChair v → v.chairs ≡ [] → ⊥
   no_chairs v h e = absurd (cc)
 
-  seats_of : (count : ℕ) (v : View Q A) → HasChair v → (v ≡ spent) ⊎ (v.seats ≡ count) → v.seats ≡ count
+  pub seats_of : (count : ℕ) (v : View Q A) → HasChair v → (v ≡ spent) ⊎ (v.seats ≡ count) → v.seats ≡ count
   seats_of count v h s = ⊎_elim (λ e. absurd (not_spent v h e)) (λ e. e) s
 
 abbrev number_in : Option ℕ → ℕ
@@ -83,16 +83,16 @@ module _ {S Q A : Type 0} (M : Meaning S Q A) (start : S) (count : ℕ) where
   Ordered = IsOrdered M start count
 
   -- the view with the turn is another one than this, which hasn't it
-  away_else : (s : State (Option S) (View Q A)) (h : Ordered s) (i : ℕ) (v : View Q A) → get_elem? s.views i ≡ some v → v.has_turn ≡ false
+  pub away_else : (s : State (Option S) (View Q A)) (h : Ordered s) (i : ℕ) (v : View Q A) → get_elem? s.views i ≡ some v → v.has_turn ≡ false
       → (u : View Q A) → get_elem? s.views (h.book.ticket_at h.book.serving) ≡ some u → u.has_turn ≡ true → h.book.ticket_at h.book.serving ≢ i
   away_else s h i v at idle u there turn same = true≢false (sym turn ∙ ap (λ w. w.has_turn) (same_at s.views _ _ u v there at same) ∙ idle)
 
   -- a view that has a ticket is the one that has it
-  held_else : (s : State (Option S) (View Q A)) (h : Ordered s) (i : ℕ) (v : View Q A) → get_elem? s.views i ≡ some v → (n : ℕ) → v.ticket ≢ Some n
+  pub held_else : (s : State (Option S) (View Q A)) (h : Ordered s) (i : ℕ) (v : View Q A) → get_elem? s.views i ≡ some v → (n : ℕ) → v.ticket ≢ Some n
       → (u : View Q A) → get_elem? s.views (h.book.ticket_at n) ≡ some u → u.ticket ≡ Some n → h.book.ticket_at n ≢ i
   held_else s h i v at n lacks u there has same = lacks (ap (λ w. w.ticket) (sym (same_at s.views _ _ u v there at same)) ∙ has)
 
-  none_some : (v : View Q A) (n : ℕ) → v.ticket ≡ None → v.ticket ≢ Some n
+  pub none_some : (v : View Q A) (n : ℕ) → v.ticket ≡ None → v.ticket ≢ Some n
   none_some v n a b = absurd (cc)
 
   -- TAKE TICKET
@@ -512,3 +512,14 @@ module _ {S Q A : Type 0} where
 
 pub other_ticket : (o : Option ℕ) (t n : ℕ) → o ≡ Some t → n ≢ t → is_ticket o n ≡ false
 other_ticket o t n e ne = subst (λ x. is_ticket x n ≡ false) (sym e) (ne_eqb t n (λ q. ne (sym q)))
+
+abbrev object_or : {S : Type 0} → S → Option S → S
+object_or x None = x
+object_or x (Some y) = y
+
+abbrev object_in : {S : Type 0} → S → List (ℕ × Option S) → S
+object_in x [] = x
+object_in x (y ∷ ys) = object_or x y.1
+
+pub same_object : {S : Type 0} (x y : S) → ◌≡◌ {A = List (ℕ × Option S)} ((0, Some x) ∷ []) ((0, Some y) ∷ []) → x ≡ y
+same_object x y e = ap (object_in x) e

@@ -1,3 +1,4 @@
 mod Growth
-mod Serving
 mod Keeping
+mod Making
+mod Serving

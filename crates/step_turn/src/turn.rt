@@ -142,7 +142,7 @@ impl<S: Steps> Turn<S> {
         place: &mut Place<S, S::Asked, S::Answer>,
     ) -> u64
         requires place { place.old.table_id ≡ self.now.id }
-        requires waits { HasChair place.old.me.0 × (place.old.me.0.has_turn ≡ false) × (place.old.me.1 ≡ []) }
+        requires waits { HasChair place.old.me.0 × (place.old.me.0.has_turn ≡ false) }
         requires legal { (log : List (Entry S.Asked S.Answer)) → IsLegal S.meaning self.now.start log → J.legal log }
         requires reached { (log : List (Entry S.Asked S.Answer)) (object : S) → Reaches S.meaning self.now.start log object → J.reached log object }
         ensures place { (place.new.table_id ≡ place.old.table_id) × (place.new.id ≡ place.old.id) }
@@ -154,7 +154,7 @@ impl<S: Steps> Turn<S> {
     // Looks at the ticket that is served, and takes the turn where it is the seat's.
     fn look(&self, place: &mut Place<S, S::Asked, S::Answer>) -> u64
         requires place { place.old.table_id ≡ self.now.id }
-        requires waits { HasChair place.old.me.0 × (place.old.me.0.has_turn ≡ false) × (place.old.me.1 ≡ []) }
+        requires waits { HasChair place.old.me.0 × (place.old.me.0.has_turn ≡ false) }
         ensures place { (place.new.table_id ≡ place.old.table_id) × (place.new.id ≡ place.old.id) }
         ensures looks { Looked (IsLegal S.meaning self.now.start) (Reaches S.meaning self.now.start) place.old.me result place.new.me }
     {
@@ -164,13 +164,14 @@ impl<S: Steps> Turn<S> {
     // Waits until this ticket is served, and takes the turn.
     fn wait_for<R: Wait>(&self, rt: &R, place: &mut Place<S, S::Asked, S::Answer>, ticket: u64)
         requires place { place.old.table_id ≡ self.now.id }
-        requires waits { HasChair place.old.me.0 × (place.old.me.0.has_turn ≡ false) × (place.old.me.1 ≡ []) }
+        requires waits { HasChair place.old.me.0 × (place.old.me.0.has_turn ≡ false) }
         requires ticket { place.old.me.0.ticket ≡ Some ticket }
         ensures place { (place.new.table_id ≡ place.old.table_id) × (place.new.id ≡ place.old.id) }
         ensures looks { Looked (IsLegal S.meaning self.now.start) (Reaches S.meaning self.now.start) place.old.me ticket place.new.me }
     {
         for _ in rt.forever() {
-            if self.look(place) == ticket {
+            let found = self.look(place);
+            if found == ticket {
                 break;
             }
         }
