@@ -368,7 +368,7 @@ module _ {S Q A : Type 0} (M : Meaning S Q A) (start : S) (count : ℕ) where
   made_else n log r c ne =
       made_by-append n log (turn_of r c) ∙ ap (λ l. made_by n log ++ l) (made_turn n r c ∙ ap (λ b. cond b (c ∷ []) []) (ne_eqb c.seat n ne)) ∙ append-nil (made_by n log)
 
-  made_more : (n : ℕ) (log : List (Entry Q A)) (r : Option (ℕ × ℕ)) (c : Call Q A) → c.seat ≡ n → made_by n (log ++ turn_of r c) ≡ made_by n log ++ c ∷ []
+  pub made_more : (n : ℕ) (log : List (Entry Q A)) (r : Option (ℕ × ℕ)) (c : Call Q A) → c.seat ≡ n → made_by n (log ++ turn_of r c) ≡ made_by n log ++ c ∷ []
   made_more n log r c e =
       made_by-append n log (turn_of r c) ∙ ap (λ l. made_by n log ++ l) (made_turn n r c ∙ ap (λ b. cond b (c ∷ []) []) (eq-eqb c.seat n e))
 

@@ -1,3 +1,4 @@
+mod Calling
 mod Growth
 mod Keeping
 mod Making
