@@ -64,3 +64,16 @@ module _ {S Q A : Type 0} (M : Meaning S Q A) (start : S) (seats number : ℕ) (
           once = made_more M start seats number l.seen r c added.seat_is ∙ ap (λ s. s ++ c ∷ []) own_is;
         },
       )
+
+every_behind : {X : Type 0} (P : X → Type 0) (xs ys : List X) → Every P (xs ++ ys) → Every P ys
+every_behind P [] ys h = h
+every_behind P (x ∷ xs) ys h = every_behind P xs ys h.1
+
+module _ {S Q A : Type 0} (M : Meaning S Q A) (start : S) where
+  pub meets : (seats number : ℕ) (own : List (Call Q A)) (seen : List (Entry Q A)) (heard : List (List (Entry Q A))) (nseats : ℕ) (nseen : List (Entry Q A)) (found : ℕ) (me : Me (Option S) (View Q A))
+      → Looked (IsLegal M start) (Reaches M start) (joined (seated seats number own seen heard None false) (noted nseats nseen), []) found me
+      → (seen' : List (Entry Q A)) × (me ≡ (seated seats number own seen' [] None false, []))
+        × ((turn : TableId) → Met M start record { number = number; seen = seen; own = own; turn = turn } record { seen = nseen; turn = turn } record { number = number; seen = seen'; own = own; turn = turn })
+  meets seats number own seen heard nseats nseen found me l =
+      let b = every_behind (StartsWith l.seen) (heard ++ []) (seen ∷ nseen ∷ []) l.heard in
+      (l.seen, l.turn, λ turn. record { mine = b.0; noted = b.1.0; legal = l.is_legal; own = refl; once = l.own.0 })

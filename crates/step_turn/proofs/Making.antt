@@ -31,8 +31,8 @@ module _ {S Q A : Type 0} (M : Meaning S Q A) (start : S) (count : ℕ) where
 
   -- SPLIT
 
-  at_old : (s : State (Option S) (View Q A)) (i j : ℕ) (w x u : View Q A) → get_elem? s.views i ≡ some w → get_elem? s.views j ≡ some u → j ≢ i → get_elem? (set s.views i w ++ x ∷ []) j ≡ some u
-  at_old s i j w x u here at ne = at_longer (set s.views i w) (x ∷ []) j u (set_else s.views i j w ne ∙ at)
+  at_old : (s : State (Option S) (View Q A)) (i j : ℕ) (w x u : View Q A) → get_elem? s.views j ≡ some u → j ≢ i → get_elem? (set s.views i w ++ x ∷ []) j ≡ some u
+  at_old s i j w x u at ne = at_longer (set s.views i w) (x ∷ []) j u (set_else s.views i j w ne ∙ at)
 
   -- what holds of the views as they are and of the one added holds of each
   add_each : (P : ℕ → View Q A → Type 0) (vs : List (View Q A)) (x : View Q A) → ((j : ℕ) (u : View Q A) → get_elem? vs j ≡ some u → P j u) → P (length vs) x
@@ -121,8 +121,8 @@ module _ {S Q A : Type 0} (M : Meaning S Q A) (start : S) (count : ℕ) where
         legal = h.legal;
         served = h.served;
         home = h.home;
-        away = λ out. let a = h.away out in (a.0, (a.1.0, at_old s i _ w x a.1.0 at a.1.1 (away_else M start count s h i v at refl a.1.0 a.1.1 a.1.2), a.1.2));
-        held = λ n from to. let a = h.held n from to in (a.0, at_old s i _ w x a.0 at a.1 (held_else M start count s h i v at n (λ e. absurd (cc)) a.0 a.1 a.2), a.2);
+        away = λ out. let a = h.away out in (a.0, (a.1.0, at_old s i _ w x a.1.0 a.1.1 (away_else M start count s h i v at refl a.1.0 a.1.1 a.1.2), a.1.2));
+        held = λ n from to. let a = h.held n from to in (a.0, at_old s i _ w x a.0 a.1 (held_else M start count s h i v at n (λ e. absurd (cc)) a.0 a.1 a.2), a.2);
         made = omega (arith, left.1);
         callers = every_map (λ (c : Call Q A). c.seat < b.made) (λ (c : Call Q A). c.seat < suc b.made) (λ c lt. omega (arith, lt)) (calls b.log) h.callers;
         fits = add_each (Fits count (one_more b (length vs))) vs x
@@ -235,7 +235,7 @@ module _ {S Q A : Type 0} (M : Meaning S Q A) (start : S) (count : ℕ) where
                   })
                 (λ ne'. record {
                   seen = longer_starts b.log v.seen w.seen mine.seen theirs.seen (ltb (length v.seen) (length w.seen));
-                  heard = every_append (StartsWith b.log) (v.heard ++ w.heard) (v.seen ∷ w.seen ∷ []) (every_append (StartsWith b.log) v.heard w.heard mine.heard theirs.heard) (mine.seen, theirs.seen, tt);
+                  heard = every_append (StartsWith b.log) (v.heard ++ w.heard) (v.seen ∷ w.seen ∷ []) (every_append (StartsWith b.log) v.heard w.heard mine.heard theirs.heard) (mine.seen, (theirs.seen, tt));
                   chairs = every_append (ChairFits b.made (moved b other i).chair_at b.log i) v.chairs w.chairs
                       (every_map (ChairFits b.made b.chair_at b.log i) (ChairFits b.made (moved b other i).chair_at b.log i) (λ c p. record { was_made = p.was_made; here = moved_else b other i c.number i p.here ne'; own = p.own }) v.chairs mine.chairs)
                       (every_map (ChairFits b.made b.chair_at b.log other) (ChairFits b.made (moved b other i).chair_at b.log i) (λ c p. record { was_made = p.was_made; here = moved_here b other i c.number p.here; own = p.own }) w.chairs theirs.chairs);

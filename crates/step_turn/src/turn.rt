@@ -292,9 +292,8 @@ impl<S: Steps> Turn<S> {
         ensures met { Met S.meaning self.now.start seat.old note seat.new }
     {
         let mut place = mem::replace(&mut seat.badge, Badge::blank()).into_seat();
-        self.table
-            .shared
-            .join_seat::<Joined>(&mut place, note.badge.into_seat());
+        let noted = note.badge.into_seat();
+        self.table.shared.join_seat::<Joined>(&mut place, noted);
         self.look(&mut place);
         seat.badge = place.into_badge();
     }
@@ -357,9 +356,8 @@ impl<S: Steps> Turn<S> {
         };
         let mut place = first.badge.into_seat();
         while let Some(seat) = seats.pop() {
-            self.table
-                .shared
-                .join_seat::<Joined>(&mut place, seat.badge.into_seat());
+            let joining = seat.badge.into_seat();
+            self.table.shared.join_seat::<Joined>(&mut place, joining);
         }
         place
     }
