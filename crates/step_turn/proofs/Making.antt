@@ -13,6 +13,8 @@ use Rattle.atomic_table.specs.Table.{State, Me, Step, step, Act, keeps, takes, g
 use Rattle.atomic_table.proofs.Lists.{at_set, at_snoc, at_last, at_longer, set_again, set_here, set_else}
 use Rattle.step_turn.specs.Meaning.{Meaning}
 use Rattle.step_turn.specs.Histories.{calls, call_count, made_by, turn_of, Every, Among, StartsWith, IsLegal, Reaches}
+use Rattle.atomic_table.specs.Seated.{TableId}
+use Rattle.step_turn.specs.Seats.{SeatValue, AreNew}
 use Rattle.step_turn.specs.Order as order
 use Rattle.step_turn.specs.Order.{chair, spent, making, maker, seated, noted, left_of, right_of, longer, joined, with_ticket, looked, with_call, served, Book, ChairFits, Fits, IsOrdered, HasChair, is_ticket, Waits, TookTicket, Looked, Advanced}
 use Rattle.step_turn.specs.declared.entry.Call.{Call}
@@ -174,6 +176,11 @@ module _ {S Q A : Type 0} (M : Meaning S Q A) (start : S) (count : ℕ) where
       one_less : suc k - 1 ≡ k
       one_less = omega arith
 
+  pub next_seat : (seats number : ℕ) → number < seats → right_of (making {Q = Q} {A = A} seats (seats - number)) ≡ seated seats number [] [] [] None false
+  next_seat seats number lt =
+      let n : seats - (seats - number) ≡ number = omega (arith, lt) in
+      ap (λ b. cond b (noted seats []) (seated seats (seats - (seats - number)) [] [] [] None false)) (ne_eqb (seats - number) 0 (λ e. absurd (omega (arith, e, lt)))) ∙ ap (λ k. seated seats k [] [] [] None false) n
+
   -- JOIN
 
   abbrev moved : Book Q A → ℕ → ℕ → Book Q A
@@ -296,3 +303,8 @@ module _ {S Q A : Type 0} (M : Meaning S Q A) (start : S) (count : ℕ) where
         making = λ some. (refl, omega arith);
         seats = inr refl;
       }
+
+module _ {Q A : Type 0} where
+  pub are_new-push : (turn : TableId) (n : ℕ) (xs : List (SeatValue Q A)) (x : SeatValue Q A) → AreNew turn n xs → x ≡ record { number = n + length xs; seen = []; own = []; turn = turn } → AreNew turn n (xs ++ x ∷ [])
+  are_new-push turn n [] x h e = (subst (λ k. x ≡ record { number = k; seen = []; own = []; turn = turn }) (omega arith) e, tt)
+  are_new-push turn n (y ∷ ys) x h e = (h.0, are_new-push turn (suc n) ys x h.1 (subst (λ k. x ≡ record { number = k; seen = []; own = []; turn = turn }) (omega arith) e))

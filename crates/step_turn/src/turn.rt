@@ -1,4 +1,4 @@
-ghost use Rattle.std.specs.Prelude.{◌≡◌, ◌+◌, ◌-◌, ◌^◌, ◌<◌, ◌≤◌, ◌++◌, ℕ, suc, List, Option, true, false, [], ◌∷◌, length, map, Some, None, IfOk, IfErr, OnOk};
+ghost use Rattle.std.specs.Prelude.{◌≡◌, ◌+◌, ◌-◌, ◌^◌, ◌<◌, ◌≤◌, ◌++◌, ℕ, suc, List, Option, true, false, [], ◌∷◌, length, map, Some, None, IfOk, IfErr, OnOk, vec_capacity};
 ghost use Rattle.step_turn.specs.Seats.{TurnValue, AreNew, AreOf, IsSameSeat, Answered, Met, Closes, missing};
 ghost use Rattle.step_turn.specs.Histories.{call_count, Reaches, IsLegal, StartsWith, turn_of, made_by, Every};
 ghost use Rattle.step_turn.specs.Order.{HasChair, with_ticket, looked, Looked, Advanced, Adds, IsAdded, served, first_number, Made, making, Knows, IsIdle};
@@ -81,9 +81,7 @@ impl<S: Steps> Turn<S> {
                     table,
                     seats: u64::from(seats),
                 };
-                for number in 0..u64::from(seats) {
-                    made.push_reserved(turn.seat(&mut maker, number));
-                }
+                turn.make_seats(&mut maker, &mut made);
                 Ok((turn, made))
             }
             Err(refused) => Err((only(refused.slots), AllocError)),
@@ -341,6 +339,21 @@ impl<S: Steps> Turn<S> {
         Seat {
             number,
             badge: place.into_badge(),
+        }
+    }
+
+    // All seats of the turn, in the order of their numbers.
+    fn make_seats(
+        &self,
+        maker: &mut Place<S, S::Asked, S::Answer>,
+        made: &mut Vec<Seat<S::Asked, S::Answer>>,
+    )
+        requires maker { (maker.old.table_id ≡ self.now.id) × (maker.old.me ≡ (making self.now.seats self.now.seats, [])) }
+        requires made { (made.old.items ≡ []) × (self.now.seats ≤ vec_capacity made.old) }
+        ensures { (length made.new.items ≡ self.now.seats) × AreNew self.now.id 0 made.new.items }
+    {
+        for number in 0..self.seats {
+            made.push_reserved(self.seat(maker, number));
         }
     }
 
