@@ -40,7 +40,7 @@ module _ {S Q A : Type 0} (M : Meaning S Q A) (start : S) (seats number : ℕ) (
 
   pub ends : (asked : Q) (answer : A) (after : Me (Option S) (View Q A)) (l : Found) → Advanced (Made M start me.0.seen (first_number me.0.chairs) asked answer) (me.0, []) after
       → (own' : List (Call Q A)) × (seen' : List (Entry Q A)) × (after ≡ (seated seats number own' seen' [] None false, []))
-        × ((turn : TableId) → Answered M start record { number = number; seen = seen; own = own; turn = turn } asked (n + 1) answer record { number = number; seen = seen'; own = own'; turn = turn })
+      × ((turn : TableId) → Answered M start record { number = number; seen = seen; own = own; turn = turn } asked (n + 1) answer record { number = number; seen = seen'; own = own'; turn = turn })
   ends asked answer after l a =
       let begun = has_begun l in
       let b = subst (λ (m : Me (Option S) (View Q A)). Advanced (Made M start m.0.seen (first_number m.0.chairs) asked answer) (m.0, []) after) begun.1 a in
@@ -73,7 +73,7 @@ module _ {S Q A : Type 0} (M : Meaning S Q A) (start : S) where
   pub meets : (seats number : ℕ) (own : List (Call Q A)) (seen : List (Entry Q A)) (heard : List (List (Entry Q A))) (nseats : ℕ) (nseen : List (Entry Q A)) (found : ℕ) (me : Me (Option S) (View Q A))
       → Looked (IsLegal M start) (Reaches M start) (joined (seated seats number own seen heard None false) (noted nseats nseen), []) found me
       → (seen' : List (Entry Q A)) × (me ≡ (seated seats number own seen' [] None false, []))
-        × ((turn : TableId) → Met M start record { number = number; seen = seen; own = own; turn = turn } record { seen = nseen; turn = turn } record { number = number; seen = seen'; own = own; turn = turn })
+      × ((turn : TableId) → Met M start record { number = number; seen = seen; own = own; turn = turn } record { seen = nseen; turn = turn } record { number = number; seen = seen'; own = own; turn = turn })
   meets seats number own seen heard nseats nseen found me l =
       let b = every_behind (StartsWith l.seen) (heard ++ []) (seen ∷ nseen ∷ []) l.heard in
       (l.seen, l.turn, λ turn. record { mine = b.0; noted = b.1.0; legal = l.is_legal; own = refl; once = l.own.0 })

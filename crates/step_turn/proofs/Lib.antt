@@ -1,4 +1,5 @@
 mod Calling
+mod Closing
 mod Growth
 mod Keeping
 mod Making

@@ -22,7 +22,6 @@ use Rattle.step_turn.specs.declared.entry.Entry.{Entry}
 use Rattle.step_turn.specs.declared.view.Chair.{Chair}
 use Rattle.step_turn.specs.declared.view.View.{View}
 use Rattle.step_turn.proofs.Growth.{call_count-append, calls-append, made_by-append, reaches-legal}
-
 use Rattle.step_turn.specs.declared.entry.Entry.TheVariants.{Called, Reopened}
 use Rattle.step_turn.specs.Meaning.{Standing, running, halted}
 use Rattle.step_turn.proofs.Keeping.{off, every_map, every_append, set_each, same_at, at_below, seats_of, away_else, held_else, none_some}
@@ -54,6 +53,7 @@ module _ {S Q A : Type 0} (M : Meaning S Q A) (start : S) (count : ℕ) where
     where
       less : v.to_make - 1 ≡ v.to_make
       less = omega (arith, none_left)
+
       with_note : Ruled record { words = s.words; homes = s.homes; views = s.views ++ noted v.seats v.seen ∷ [] }
       with_note =
           let b = h.book in
@@ -129,29 +129,29 @@ module _ {S Q A : Type 0} (M : Meaning S Q A) (start : S) (count : ℕ) where
         callers = every_map (λ (c : Call Q A). c.seat < b.made) (λ (c : Call Q A). c.seat < suc b.made) (λ c lt. omega (arith, lt)) (calls b.log) h.callers;
         fits = add_each (Fits count (one_more b (length vs))) vs x
             (set_each (Fits count (one_more b (length vs))) s.views i w
-                (λ j u ne e.
-                  let f = h.fits j u e in
-                  record {
-                    seen = f.seen;
-                    heard = f.heard;
-                    chairs = every_map (ChairFits b.made b.chair_at b.log j) (ChairFits (suc b.made) (one_more b (length vs)).chair_at b.log j)
-                        (λ c p. record { was_made = omega (arith, p.was_made); here = chair_kept b (length vs) c.number p.was_made ∙ p.here; own = p.own }) u.chairs f.chairs;
-                    ticket = f.ticket;
-                    unseated = f.unseated;
-                    turn = f.turn;
-                    making = λ some. absurd (ne (sym (f.making some).0 ∙ left.0));
-                    seats = f.seats;
-                  })
-                record {
-                  seen = (b.log, refl);
-                  heard = tt;
-                  chairs = tt;
-                  ticket = λ t own. absurd (cc);
-                  unseated = λ _. refl;
-                  turn = λ t. absurd (off t);
-                  making = λ some. (left.0, omega (arith, left.1));
-                  seats = inr refl;
-                })
+            (λ j u ne e.
+            let f = h.fits j u e in
+            record {
+              seen = f.seen;
+              heard = f.heard;
+              chairs = every_map (ChairFits b.made b.chair_at b.log j) (ChairFits (suc b.made) (one_more b (length vs)).chair_at b.log j)
+                  (λ c p. record { was_made = omega (arith, p.was_made); here = chair_kept b (length vs) c.number p.was_made ∙ p.here; own = p.own }) u.chairs f.chairs;
+              ticket = f.ticket;
+              unseated = f.unseated;
+              turn = f.turn;
+              making = λ some. absurd (ne (sym (f.making some).0 ∙ left.0));
+              seats = f.seats;
+            })
+            record {
+              seen = (b.log, refl);
+              heard = tt;
+              chairs = tt;
+              ticket = λ t own. absurd (cc);
+              unseated = λ _. refl;
+              turn = λ t. absurd (off t);
+              making = λ some. (left.0, omega (arith, left.1));
+              seats = inr refl;
+            })
             record {
               seen = (b.log, refl);
               heard = tt;
@@ -228,31 +228,31 @@ module _ {S Q A : Type 0} (M : Meaning S Q A) (start : S) (count : ℕ) where
         callers = h.callers;
         fits = set_each (Fits count (moved b other i)) (set s.views i both) other spent
             (λ j u ne e. set_each (λ k x. k ≢ other → Fits count (moved b other i) k x) s.views i both
-                (λ k x ne' e' ne''.
-                  let f = h.fits k x e' in
-                  record {
-                    seen = f.seen;
-                    heard = f.heard;
-                    chairs = every_map (ChairFits b.made b.chair_at b.log k) (ChairFits b.made (moved b other i).chair_at b.log k) (λ c p. record { was_made = p.was_made; here = moved_else b other i c.number k p.here ne''; own = p.own }) x.chairs f.chairs;
-                    ticket = f.ticket;
-                    unseated = f.unseated;
-                    turn = f.turn;
-                    making = f.making;
-                    seats = f.seats;
-                  })
-                (λ ne'. record {
-                  seen = longer_starts b.log v.seen w.seen mine.seen theirs.seen (ltb (length v.seen) (length w.seen));
-                  heard = every_append (StartsWith b.log) (v.heard ++ w.heard) (v.seen ∷ w.seen ∷ []) (every_append (StartsWith b.log) v.heard w.heard mine.heard theirs.heard) (mine.seen, (theirs.seen, tt));
-                  chairs = every_append (ChairFits b.made (moved b other i).chair_at b.log i) v.chairs w.chairs
-                      (every_map (ChairFits b.made b.chair_at b.log i) (ChairFits b.made (moved b other i).chair_at b.log i) (λ c p. record { was_made = p.was_made; here = moved_else b other i c.number i p.here ne'; own = p.own }) v.chairs mine.chairs)
-                      (every_map (ChairFits b.made b.chair_at b.log other) (ChairFits b.made (moved b other i).chair_at b.log i) (λ c p. record { was_made = p.was_made; here = moved_here b other i c.number p.here; own = p.own }) w.chairs theirs.chairs);
-                  ticket = mine.ticket;
-                  unseated = λ _. free;
-                  turn = λ t. absurd (off (sym idle ∙ t));
-                  making = λ some. absurd (omega (arith, some, all_made, all_made'));
-                  seats = inr (⊎_elim (λ e. absurd (off_spent v first rest_of seated_at e)) (λ e. e) mine.seats);
-                })
-                j u e ne)
+            (λ k x ne' e' ne''.
+            let f = h.fits k x e' in
+            record {
+              seen = f.seen;
+              heard = f.heard;
+              chairs = every_map (ChairFits b.made b.chair_at b.log k) (ChairFits b.made (moved b other i).chair_at b.log k) (λ c p. record { was_made = p.was_made; here = moved_else b other i c.number k p.here ne''; own = p.own }) x.chairs f.chairs;
+              ticket = f.ticket;
+              unseated = f.unseated;
+              turn = f.turn;
+              making = f.making;
+              seats = f.seats;
+            })
+            (λ ne'. record {
+              seen = longer_starts b.log v.seen w.seen mine.seen theirs.seen (ltb (length v.seen) (length w.seen));
+              heard = every_append (StartsWith b.log) (v.heard ++ w.heard) (v.seen ∷ w.seen ∷ []) (every_append (StartsWith b.log) v.heard w.heard mine.heard theirs.heard) (mine.seen, (theirs.seen, tt));
+              chairs = every_append (ChairFits b.made (moved b other i).chair_at b.log i) v.chairs w.chairs
+                  (every_map (ChairFits b.made b.chair_at b.log i) (ChairFits b.made (moved b other i).chair_at b.log i) (λ c p. record { was_made = p.was_made; here = moved_else b other i c.number i p.here ne'; own = p.own }) v.chairs mine.chairs)
+                  (every_map (ChairFits b.made b.chair_at b.log other) (ChairFits b.made (moved b other i).chair_at b.log i) (λ c p. record { was_made = p.was_made; here = moved_here b other i c.number p.here; own = p.own }) w.chairs theirs.chairs);
+              ticket = mine.ticket;
+              unseated = λ _. free;
+              turn = λ t. absurd (off (sym idle ∙ t));
+              making = λ some. absurd (omega (arith, some, all_made, all_made'));
+              seats = inr (⊎_elim (λ e. absurd (off_spent v first rest_of seated_at e)) (λ e. e) mine.seats);
+            })
+            j u e ne)
             record {
               seen = (b.log, refl);
               heard = tt;
@@ -291,6 +291,7 @@ module _ {S Q A : Type 0} (M : Meaning S Q A) (start : S) (count : ℕ) where
     where
       here : Reaches M start [] start
       here = record { numbered = tt; counted = refl; replays = λ told. (told, (running (M.state start), refl, (runs, refl))) }
+
       only_first : (i : ℕ) (v : View Q A) → get_elem? (maker count ∷ []) i ≡ some v → Fits count (record { ticket = 0; serving = 0; log = []; made = 0; maker = 0; out = false; ticket_at = λ _. 0; chair_at = λ _. 0 }) i v
       only_first (suc i) v e = absurd (some-ne-none v (sym e))
       only_first zero v e = subst (Fits count (record { ticket = 0; serving = 0; log = []; made = 0; maker = 0; out = false; ticket_at = λ _. 0; chair_at = λ _. 0 }) 0) (some-injective (maker count) v e) record {

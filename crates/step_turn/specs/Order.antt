@@ -168,7 +168,18 @@ Knows v x = Among (chair x.number x.own) v.chairs × Among x.seen (v.seen ∷ v.
 
 -- a seat that is in no call, and holds no slot
 abbrev pub IsIdle : {S Q A : Type 0} → Me (Option S) (View Q A) → Type 0
-IsIdle me = (me.1 ≡ []) × (me.0.ticket ≡ None) × (me.0.has_turn ≡ false)
+IsIdle me = (me.1 ≡ []) × (me.0.ticket ≡ None) × (me.0.has_turn ≡ false) × (me.0.to_make ≡ 0)
+
+-- seats were joined into one, and it knows of each
+pub record Gathers {S Q A : Type 0} (old me : Me (Option S) (View Q A)) (all left : List (SeatValue Q A)) : Type 0 where
+  pub idle : IsIdle me
+  pub chair : Chair Q A
+  pub chairs : List (Chair Q A)
+  pub chairs_are : me.0.chairs ≡ chair ∷ chairs
+  pub keeps_known : (x : SeatValue Q A) → Knows old.0 x → Knows me.0 x
+  pub taken : List (SeatValue Q A)
+  pub all_is : all ≡ left ++ taken
+  pub knows : Every (Knows me.0) taken
 
 abbrev pub first_number : {Q A : Type 0} → List (Chair Q A) → ℕ
 first_number [] = 0

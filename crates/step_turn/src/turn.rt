@@ -1,7 +1,7 @@
 ghost use Rattle.std.specs.Prelude.{◌≡◌, ◌+◌, ◌-◌, ◌^◌, ◌<◌, ◌≤◌, ◌++◌, ℕ, suc, List, Option, true, false, [], ◌∷◌, length, map, Some, None, IfOk, IfErr, OnOk, vec_capacity};
 ghost use Rattle.step_turn.specs.Seats.{TurnValue, AreNew, AreOf, IsSameSeat, Answered, Met, Closes, missing};
 ghost use Rattle.step_turn.specs.Histories.{call_count, Reaches, IsLegal, StartsWith, turn_of, made_by, Every};
-ghost use Rattle.step_turn.specs.Order.{HasChair, with_ticket, looked, Looked, Advanced, Adds, IsAdded, served, first_number, Made, making, Knows, IsIdle};
+ghost use Rattle.step_turn.specs.Order.{HasChair, with_ticket, looked, Looked, Advanced, Adds, IsAdded, served, first_number, Made, making, IsIdle, Gathers};
 ghost use Rattle.step_turn.specs.declared.entry.Call.{Call};
 ghost use Rattle.step_turn.specs.declared.entry.Entry.{Entry};
 
@@ -313,15 +313,27 @@ impl<S: Steps> Turn<S> {
                 out,
             });
         }
-        let place = self.gather(seats);
+        Ok(self.close_all(seats))
+    }
+
+    // The object, where no seat is missing.
+    fn close_all(self, mut seats: Vec<Seat<S::Asked, S::Answer>>) -> S
+        requires seats { 0 < length seats.items }
+        requires turn { AreOf self.id seats.items }
+        requires all { missing self.seats seats.items ≡ 0 }
+        ensures { Closes S.meaning self seats.items result }
+    {
+        let Some(first) = seats.pop() else {
+            unreachable!()
+        };
+        let mut place = first.badge.into_seat();
+        self.gather(&mut place, seats);
         let Turn { table, seats: _ } = self;
         let mut closed = table.close_with(place);
         let slot = closed.take(0);
         closed.free();
-        match slot {
-            Some(object) => Ok(object),
-            None => unreachable!(),
-        }
+        let Some(object) = slot else { unreachable!() };
+        object
     }
 
     // The seat with the next number, from the first view.
@@ -357,22 +369,21 @@ impl<S: Steps> Turn<S> {
         }
     }
 
-    // Joins all seats into one.
-    fn gather(&self, mut seats: Vec<Seat<S::Asked, S::Answer>>) -> Place<S, S::Asked, S::Answer>
-        requires seats { 0 < length seats.items }
+    // Joins all these seats into one.
+    fn gather(
+        &self,
+        place: &mut Place<S, S::Asked, S::Answer>,
+        mut seats: Vec<Seat<S::Asked, S::Answer>>,
+    )
+        requires place { (place.old.table_id ≡ self.now.id) × IsIdle place.old.me × HasChair place.old.me.0 }
         requires turn { AreOf self.now.id seats.items }
-        ensures place { (result.table_id ≡ self.now.id) × IsIdle result.me }
-        ensures knows { Every (Knows result.me.0) seats.items }
+        ensures place { (place.new.table_id ≡ place.old.table_id) × (place.new.id ≡ place.old.id) }
+        ensures gathers { Gathers place.old.me place.new.me seats.items [] }
     {
-        let Some(first) = seats.pop() else {
-            unreachable!()
-        };
-        let mut place = first.badge.into_seat();
         while let Some(seat) = seats.pop() {
             let joining = seat.badge.into_seat();
-            self.table.shared.join_seat::<Joined>(&mut place, joining);
+            self.table.shared.join_seat::<Joined>(place, joining);
         }
-        place
     }
 }
 

@@ -28,8 +28,7 @@ take_turn-answer-requires-clause-place g c =
     let v = view_of c.seat.inside.badge.views in
     let e = placed (at_rest c.seat.inside.number) c.seat.inside.badge.views c.replace.result.views c.into_seat-place.result.me c.seat.invariant (ap (λ b. b.views) c.replace.ensures.value) i.2 i.3 in
     let l = subst (λ m. Looked (IsLegal M start) (Reaches M start) (with_ticket m.0 (Some c.wait-number.result), m.1) c.wait-number.result c.wait-number.new.place.me) e c.wait-number.ensures.looks in
-    let b = has_begun M start v.seats c.seat.inside.number (own_of v) v.seen v.heard c.wait-number.result c.wait-number.new.place.me l in
-    (
+    let b = has_begun M start v.seats c.seat.inside.number (own_of v) v.seen v.heard c.wait-number.result c.wait-number.new.place.me l in (
       c.wait-number.ensures.place.0 ∙ i.0 ∙ ap (λ b. b.table_id) c.replace.ensures.value ∙ ap (λ x. x.turn) c.seat.view_is ∙ c.requires.seat,
       (_, ap (λ m. m.0.chairs) b.1),
       ap (λ m. m.0.has_turn) b.1,
@@ -63,8 +62,7 @@ invariant_of-seat g c =
 
 pub returns-clause-seat : goal.returns-clause-seat
 returns-clause-seat g c =
-    let i = c.into_seat-place.ensures in
-    (
+    let i = c.into_seat-place.ensures in (
       ap (λ x. x.number) c.seat.view_is,
       c.into_badge.ensures.0 ∙ c.take_turn-answer.ensures.place.0 ∙ c.wait-number.ensures.place.0 ∙ i.0 ∙ ap (λ b. b.table_id) c.replace.ensures.value ∙ ap (λ x. x.turn) c.seat.view_is,
     )
@@ -90,4 +88,4 @@ returns-clause-answered g c =
     let new : SeatValue g.row.S-Asked.Denot g.row.S-Answer.Denot = record { number = number; seen = (view_of ws).seen; own = own_of (view_of ws); turn = id } in
     subst (λ x. Answered M start x asked count answer new) c.seat.view_is
     (subst (λ xs. Answered M start old asked count answer record { number = number; seen = (view_of xs).seen; own = own_of (view_of xs); turn = id }) (sym rests)
-        (subst (λ t. Answered M start record { number = number; seen = v.seen; own = own_of v; turn = t } asked count answer record { number = number; seen = d.1; own = d.0; turn = id }) same (d.3 id)))
+    (subst (λ t. Answered M start record { number = number; seen = v.seen; own = own_of v; turn = t } asked count answer record { number = number; seen = d.1; own = d.0; turn = id }) same (d.3 id)))

@@ -18,8 +18,7 @@ join_seat-requires g c =
     let j = c.into_seat-noted.ensures in
     let e = placed (at_rest c.seat.inside.number) c.seat.inside.badge.views c.replace.result.views c.into_seat-place.result.me c.seat.invariant (ap (λ b. b.views) c.replace.ensures.value) i.2 i.3 in
     let f = placed (λ v. noted v.seats v.seen) c.note.inside.badge.views c.note.inside.badge.views c.into_seat-noted.result.me c.note.invariant refl j.2 j.3 in
-    let id = ap (λ t. t.id) (sym c.self.view_is) in
-    (
+    let id = ap (λ t. t.id) (sym c.self.view_is) in (
       i.0 ∙ ap (λ b. b.table_id) c.replace.ensures.value ∙ ap (λ x. x.turn) c.seat.view_is ∙ c.requires.seat ∙ id,
       j.0 ∙ ap (λ x. x.turn) c.note.view_is ∙ c.requires.note ∙ id,
       j.3,
@@ -71,11 +70,10 @@ invariant_of-seat g c =
     subst (λ ws. ws ≡ at_rest c.seat.inside.number (view_of ws) ∷ []) (sym rests) refl
 
 pub returns-clause-seat : goal.returns-clause-seat
-returns-clause-seat g c =
-    (
-      ap (λ x. x.number) c.seat.view_is,
-      c.into_badge.ensures.0 ∙ c.look.ensures.place.0 ∙ c.join_seat.ensures.0 ∙ c.into_seat-place.ensures.0 ∙ ap (λ b. b.table_id) c.replace.ensures.value ∙ ap (λ x. x.turn) c.seat.view_is,
-    )
+returns-clause-seat g c = (
+  ap (λ x. x.number) c.seat.view_is,
+  c.into_badge.ensures.0 ∙ c.look.ensures.place.0 ∙ c.join_seat.ensures.0 ∙ c.into_seat-place.ensures.0 ∙ ap (λ b. b.table_id) c.replace.ensures.value ∙ ap (λ x. x.turn) c.seat.view_is,
+)
 
 pub returns-clause-met : goal.returns-clause-met
 returns-clause-met g c =
@@ -100,6 +98,6 @@ returns-clause-met g c =
     let new : SeatValue g.row.S-Asked.Denot g.row.S-Answer.Denot = record { number = number; seen = (view_of ws).seen; own = own_of (view_of ws); turn = id } in
     subst (λ x. Met M start x c.args.note new) c.seat.view_is
     (subst (λ x. Met M start old x new) c.note.view_is
-        (subst (λ xs. Met M start old note record { number = number; seen = (view_of xs).seen; own = own_of (view_of xs); turn = id }) (sym rests)
-            (subst (λ t. Met M start record { number = number; seen = v.seen; own = own_of v; turn = t } note record { number = number; seen = d.0; own = own_of v; turn = id }) same
-                (subst (λ t. Met M start record { number = number; seen = v.seen; own = own_of v; turn = id } record { seen = n.seen; turn = t } record { number = number; seen = d.0; own = own_of v; turn = id }) ids (d.2 id)))))
+    (subst (λ xs. Met M start old note record { number = number; seen = (view_of xs).seen; own = own_of (view_of xs); turn = id }) (sym rests)
+    (subst (λ t. Met M start record { number = number; seen = v.seen; own = own_of v; turn = t } note record { number = number; seen = d.0; own = own_of v; turn = id }) same
+    (subst (λ t. Met M start record { number = number; seen = v.seen; own = own_of v; turn = id } record { seen = n.seen; turn = t } record { number = number; seen = d.0; own = own_of v; turn = id }) ids (d.2 id)))))

@@ -7,8 +7,7 @@ use Rattle.step_turn.proofs.turn.Turn.seat.Goals as goal
 pub split_seat-place-requires : goal.split_seat-place-requires
 split_seat-place-requires g c =
     let seats : c.args.self.now.seats ≡ c.self.inside.table.shared.key.seats = ap (λ t. t.seats) (sym c.self.view_is) ∙ sym c.self.invariant.0 in
-    let left : c.args.self.now.seats - c.args.number ≡ suc (c.args.self.now.seats - (c.args.number + 1)) = omega (arith, c.requires.left) in
-    (
+    let left : c.args.self.now.seats - c.args.number ≡ suc (c.args.self.now.seats - (c.args.number + 1)) = omega (arith, c.requires.left) in (
       c.requires.maker.0 ∙ ap (λ t. t.id) (sym c.self.view_is),
       omega (arith, c.self.invariant.1),
       makes_seat g.S.Steps.meaning _ _ _ (c.args.self.now.seats - (c.args.number + 1)) _ (ap (λ m. m.0) c.requires.maker.1 ∙ (λ k. making (seats k) (left k))),

@@ -12,8 +12,7 @@ advance-requires-clause-added g c =
     let out = c.take_out-object.ensures in
     let e = c.put_back.ensures.slot ∙ ap (λ m. (m.0, (0, Some c.serve-answer.new.object) ∷ [])) out.slot in
     let taken = same_object _ _ (sym h.1 ∙ out.object) in
-    let added = c.serve-answer.ensures c.args.self.now.start v.seen (first_number v.chairs) (subst (λ o. Reaches M c.args.self.now.start v.seen o) taken h.2) in
-    (
+    let added = c.serve-answer.ensures c.args.self.now.start v.seen (first_number v.chairs) (subst (λ o. Reaches M c.args.self.now.start v.seen o) taken h.2) in (
       c.serve-answer.new.object,
       ap (λ m. m.1) e,
       subst (λ m. IsAdded M c.args.self.now.start m.0.seen (first_number m.0.chairs) (g.S.StepsBy.asks c.args.question.now) c.serve-answer.result c.serve-answer.new.object) (sym e) added,

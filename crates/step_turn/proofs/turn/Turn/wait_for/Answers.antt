@@ -24,6 +24,6 @@ returns-clause-looks g c =
     elim c.match-next.branch [
       | in-None w ↦ search rules
       | in-Some+then-found-ticket w ↦
-        subst (λ p. Looked (IsLegal M start) (Reaches M start) c.args.place.now.me c.args.ticket p.me) (sym w.place-is)
-        (subst (λ n. Looked (IsLegal M start) (Reaches M start) c.args.place.now.me n w.look-found.new.place.me) w.if-found-ticket.true (waits_done _ _ _ _ _ _ c.loop.invariant.2 w.look-found.ensures.looks))
+          subst (λ p. Looked (IsLegal M start) (Reaches M start) c.args.place.now.me c.args.ticket p.me) (sym w.place-is)
+          (subst (λ n. Looked (IsLegal M start) (Reaches M start) c.args.place.now.me n w.look-found.new.place.me) w.if-found-ticket.true (waits_done _ _ _ _ _ _ c.loop.invariant.2 w.look-found.ensures.looks))
     ]
