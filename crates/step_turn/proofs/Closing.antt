@@ -1,5 +1,5 @@
 -- All seats are joined, and the turn is closed.
-use Rattle.std.proofs.Common.{◌≡◌, ◌≢◌, ◌⊎◌, ℕ, zero, suc, ◌+◌, ◌-◌, ◌^◌, ◌≤◌, ◌<◌, ◌==◌, ◌||◌, ◌++◌, Bool, true, false, cond, List, [], ◌∷◌, length, refl, sym, ap, ◌∙◌, subst, inl, inr, ⊎_elim, true≢false, arith, rules, append_assoc, eq-eqb, min}
+use Rattle.std.proofs.Common.{◌≡◌, ◌≢◌, ◌⊎◌, ℕ, zero, suc, ◌+◌, ◌-◌, ◌^◌, ◌≤◌, ◌<◌, ◌==◌, ◌||◌, ◌++◌, Bool, true, false, cond, List, [], ◌∷◌, length, get_or, set, refl, sym, ap, ◌∙◌, subst, inl, inr, ⊎_elim, true≢false, arith, rules, append_assoc, eq-eqb, min}
 use Rattle.std.specs.Prelude.{Option, Some, None}
 use Rattle.std.proofs.lemmas.List.{append-nil}
 use Rattle.std.proofs.Math.Nat.{eq-or-lt_of_le}
@@ -19,7 +19,18 @@ use Rattle.step_turn.specs.declared.view.Chair.{Chair}
 use Rattle.step_turn.specs.declared.view.View.{View}
 use Rattle.step_turn.proofs.Keeping.{off, every_map, every_append, same_at}
 
+pub emptied : (fs : List Bool) → get_or (set fs 0 false) 0 false ≡ false
+emptied [] = refl
+emptied (x ∷ xs) = refl
+
 module _ {X : Type 0} where
+  abbrev some_or : X → Option X → X
+  some_or x None = x
+  some_or x (Some y) = y
+
+  pub same_some : (x y : X) → Some x ≡ Some y → x ≡ y
+  same_some x y e = ap (some_or x) e
+
   among_front : (x : X) (xs ys : List X) → Among x xs → Among x (xs ++ ys)
   among_front x [] ys h = absurd h
   among_front x (z ∷ zs) ys h = ⊎_elim (λ e. inl e) (λ t. inr (among_front x zs ys t)) h
