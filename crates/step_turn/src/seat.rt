@@ -23,6 +23,14 @@ impl<Q, A> Model for Seat<Q, A> {
     ghost invariant = { λ s. s.badge.views ≡ at_rest s.number (view_of s.badge.views) ∷ [] };
 }
 
+impl<Q, A> Seat<Q, A> {
+    pub(crate) fn number(&self) -> u64
+        ensures { result ≡ self.now.number }
+    {
+        self.number
+    }
+}
+
 /// What a seat had seen, for another seat to take in.
 #[derive(Drop)]
 pub struct Note<Q, A> {

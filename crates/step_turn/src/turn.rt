@@ -1,5 +1,5 @@
 ghost use Rattle.std.specs.Prelude.{◌≡◌, ◌+◌, ◌-◌, ◌^◌, ◌<◌, ◌≤◌, ◌++◌, ℕ, suc, List, Option, true, false, [], ◌∷◌, length, map, Some, None, IfOk, IfErr, OnOk, vec_capacity};
-ghost use Rattle.step_turn.specs.Seats.{TurnValue, AreNew, AreOf, IsSameSeat, Answered, Met, Closes, missing};
+ghost use Rattle.step_turn.specs.Seats.{TurnValue, AreNew, AreOf, IsSameSeat, Answered, Met, Closes, has_number, missing};
 ghost use Rattle.step_turn.specs.Histories.{call_count, Reaches, IsLegal, StartsWith, turn_of, made_by, Every};
 ghost use Rattle.step_turn.specs.Order.{HasChair, with_ticket, looked, Looked, Advanced, Adds, IsAdded, served, first_number, Made, making, IsIdle, Gathers};
 ghost use Rattle.step_turn.specs.declared.entry.Call.{Call};
@@ -393,11 +393,21 @@ fn count_missing<Q, A>(count: u64, seats: &[Seat<Q, A>]) -> u64
 {
     let mut out = 0;
     for number in 0..count {
-        if !seats.iter().any(|seat| seat.number == number) {
+        if !any_has(number, seats) {
             out += 1;
         }
     }
     out
+}
+
+fn any_has<Q, A>(number: u64, seats: &[Seat<Q, A>]) -> bool
+    ensures { result ≡ has_number number seats.now }
+{
+    let mut found = false;
+    for seat in seats {
+        found = found || seat.number() == number;
+    }
+    found
 }
 
 // The one object of these slots.
