@@ -1,0 +1,6 @@
+mod Calling
+mod Closing
+mod Growth
+mod Keeping
+mod Making
+mod Serving

@@ -1,0 +1,4 @@
+pub mod Meaning
+pub mod Histories
+pub mod Seats
+pub mod Order
