@@ -66,8 +66,8 @@ class Desk:
 
     def made(self, cwd="."):
         """Returns what is said of the vault where there is none yet, so that the next run makes one."""
-        journal = Path(cwd, self.file())
-        is_there = journal.is_file() and journal.stat().st_size > 0
+        journal = os.path.join(cwd, self.file())
+        is_there = os.path.isfile(journal) and os.path.getsize(journal) > 0
         return b"" if is_there else f"bpdesk: made a new vault in {self.folder}\n".encode()
 
     def start(self, *words, **how):
