@@ -16,8 +16,7 @@ loop-seat-preserved g c =
     let j = c.into_seat-joining.ensures in
     let number = c.seat.inside.number in
     let f = placed (at_rest number) c.seat.inside.badge.views c.seat.inside.badge.views c.into_seat-joining.result.me c.seat.invariant refl j.2 j.3 in
-    let me = c.loop-seat.place.me in
-    (
+    let me = c.loop-seat.place.me in (
       c.join_seat.ensures.0 ∙ i.0,
       c.join_seat.ensures.1 ∙ i.1,
       every_front (λ (x : SeatValue g.row.S-Asked.Denot g.row.S-Answer.Denot). x.turn ≡ c.args.self.now.id) c.pop.new.self.items (c.in-Some.seat ∷ []) (subst (AreOf c.args.self.now.id) c.in-Some.ensures.items i.2),
@@ -35,8 +34,7 @@ join_seat-requires g c =
     let number = c.seat.inside.number in
     let f = placed (at_rest number) c.seat.inside.badge.views c.seat.inside.badge.views c.into_seat-joining.result.me c.seat.invariant refl j.2 j.3 in
     let id = ap (λ t. t.id) (sym c.self.view_is) in
-    let of = every_last (λ (x : SeatValue g.row.S-Asked.Denot g.row.S-Answer.Denot). x.turn ≡ c.args.self.now.id) c.pop.new.self.items c.in-Some.seat (subst (AreOf c.args.self.now.id) c.in-Some.ensures.items i.2) in
-    (
+    let of = every_last (λ (x : SeatValue g.row.S-Asked.Denot g.row.S-Answer.Denot). x.turn ≡ c.args.self.now.id) c.pop.new.self.items c.in-Some.seat (subst (AreOf c.args.self.now.id) c.in-Some.ensures.items i.2) in (
       i.0 ∙ c.requires.place.0 ∙ id,
       j.0 ∙ ap (λ x. x.turn) c.seat.view_is ∙ of ∙ id,
       j.3,
