@@ -1,11 +1,11 @@
 -- The counter is an object that steps.
-use Rattle.std.proofs.Common.{◌≡◌, ◌⊎◌, ℕ, Bool, true, false, refl, sym, ap, ◌∙◌, inl, inr, ⊎_elim}
-use Rattle.std.specs.Prelude.{Result, Ok, Err}
-use Rattle.step_turn.specs.Meaning.{Meaning, Standing, running, halted, IsAt, Calls, Reopens, Stepped, ReopenedSo}
-use Rattle.step_turn.specs.Counters.{Tally, answer_of, tally_after, tally_of, counting}
+use Rattle.std.proofs.Common.{◌≡◌, ◌⊎◌, ℕ, true, false, refl, ◌∙◌, inl, inr, ⊎_elim}
+use Rattle.std.specs.Prelude.{Ok, Err}
+use Rattle.step_turn.specs.Meaning.{running, halted, Stepped, ReopenedSo}
+use Rattle.step_turn.specs.Counters.{answer_of, tally_after, tally_of, counting}
 use Rattle.step_turn.specs.declared.counter.Counter.{Counter}
 use Rattle.step_turn.specs.declared.counter.Counted.{Counted}
-use Rattle.step_turn.specs.declared.counter.Counted.TheVariants.{Now, AtLimit, Failed}
+use Rattle.step_turn.specs.declared.counter.Counted.TheVariants.{Failed}
 
 pub same_tally : (c d : Counter) → c.count ≡ d.count → c.limit ≡ d.limit → tally_of c ≡ tally_of d
 same_tally c d e f = λ k. record { count = e k; limit = f k }

@@ -1,7 +1,11 @@
+ghost use Rattle.std.specs.Prelude.{◌≡◌, false, IfOk};
+
 use crate::{Counted, Counter, Turn};
 use std::test::Fail;
 
-fn counter(rt: &HostRuntime, failing: &[u64], acts: bool) -> Result<Counter, Fail> {
+fn counter(rt: &HostRuntime, failing: &[u64], acts: bool) -> Result<Counter, Fail>
+    ensures { IfOk result (λ c. c.stopped ≡ false) }
+{
     let mut calls = Vec::new(rt.alloc());
     for call in failing {
         calls.push(*call)?;

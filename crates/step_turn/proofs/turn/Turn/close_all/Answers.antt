@@ -1,4 +1,4 @@
-use Rattle.std.proofs.Common.{◌≡◌, ℕ, ◌<◌, ◌++◌, [], ◌∷◌, get_or, Some, None, true, false, zero, suc, refl, sym, ap, ◌∙◌, subst, inl, arith, rules}
+use Rattle.std.proofs.Common.{◌≡◌, ℕ, ◌++◌, [], ◌∷◌, get_or, false, refl, sym, ap, ◌∙◌, subst, inl, arith}
 use Rattle.std.specs.Slots.{slots_items, slots_len, slots_filled}
 use Rattle.atomic_table.specs.Table.{Final, Seen}
 use Rattle.step_turn.specs.Seats.{SeatValue, AreOf, Closes}

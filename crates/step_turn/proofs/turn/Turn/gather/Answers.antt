@@ -1,7 +1,6 @@
-use Rattle.std.proofs.Common.{◌≡◌, ℕ, [], ◌∷◌, ◌++◌, None, false, refl, sym, ap, ◌∙◌, subst, arith, rules}
+use Rattle.std.proofs.Common.{◌≡◌, [], ◌∷◌, refl, sym, ap, ◌∙◌, subst, arith, rules}
 use Rattle.step_turn.specs.Seats.{SeatValue, AreOf}
-use Rattle.step_turn.specs.Histories.{Every}
-use Rattle.step_turn.specs.Order.{view_of, own_of, at_rest, joined, Gathers}
+use Rattle.step_turn.specs.Order.{view_of, at_rest, joined, Gathers}
 use Rattle.step_turn.proofs.Calling.{placed}
 use Rattle.step_turn.proofs.Closing.{gathers_first, gathers_more, every_front, every_last}
 use Rattle.step_turn.proofs.Making.{joins}
