@@ -1,12 +1,12 @@
 -- A call, from the seat at rest to the seat at rest again.
-use Rattle.std.proofs.Common.{◌≡◌, ℕ, suc, ◌+◌, ◌==◌, ◌++◌, Bool, true, false, List, [], ◌∷◌, refl, sym, ap, ◌∙◌, subst, arith, append_assoc, eq-eqb}
+use Rattle.std.proofs.Common.{◌≡◌, ℕ, ◌+◌, ◌++◌, true, false, List, [], ◌∷◌, refl, sym, ap, ◌∙◌, subst, arith, append_assoc, eq-eqb}
 use Rattle.std.specs.Prelude.{Option, Some, None, MatchBool}
 use Rattle.atomic_table.specs.Table.{Me}
 use Rattle.atomic_table.specs.Seated.{TableId}
 use Rattle.step_turn.specs.Meaning.{Meaning}
-use Rattle.step_turn.specs.Histories.{call_count, made_by, turn_of, Every, StartsWith, IsLegal, Reaches}
-use Rattle.step_turn.specs.Seats.{SeatValue, NoteValue, Answered, Met}
-use Rattle.step_turn.specs.Order.{seated, noted, joined, spent, view_of, own_of, at_rest, looked, served, HasChair, is_ticket, Looked, Advanced, Made, Adds, first_number}
+use Rattle.step_turn.specs.Histories.{made_by, turn_of, Every, StartsWith, IsLegal, Reaches}
+use Rattle.step_turn.specs.Seats.{Answered, Met}
+use Rattle.step_turn.specs.Order.{seated, noted, joined, view_of, Looked, Advanced, Made, first_number}
 use Rattle.step_turn.specs.declared.entry.Call.{Call}
 use Rattle.step_turn.specs.declared.entry.Entry.{Entry}
 use Rattle.step_turn.specs.declared.entry.Entry.TheVariants.{Called, Reopened}

@@ -1,5 +1,5 @@
 -- All seats are joined, and the turn is closed.
-use Rattle.std.proofs.Common.{◌≡◌, ◌≢◌, ◌⊎◌, ℕ, zero, suc, ◌+◌, ◌-◌, ◌^◌, ◌≤◌, ◌<◌, ◌==◌, ◌||◌, ◌++◌, Bool, true, false, cond, List, [], ◌∷◌, length, get_or, set, refl, sym, ap, ◌∙◌, subst, inl, inr, ⊎_elim, true≢false, arith, rules, append_assoc, eq-eqb, min}
+use Rattle.std.proofs.Common.{◌≡◌, ℕ, zero, suc, ◌+◌, ◌-◌, ◌^◌, ◌≤◌, ◌<◌, ◌==◌, ◌||◌, ◌++◌, Bool, true, false, cond, List, [], ◌∷◌, get_or, set, refl, sym, ap, ◌∙◌, subst, inl, inr, ⊎_elim, arith, append_assoc, min}
 use Rattle.std.specs.Prelude.{Option, Some, None}
 use Rattle.std.proofs.lemmas.List.{append-nil}
 use Rattle.std.proofs.Math.Nat.{eq-or-lt_of_le}
@@ -9,9 +9,9 @@ use lib.ListN.{get_elem?}
 use Rattle.atomic_table.specs.Table.{State, Me, Final, Seen}
 use Rattle.atomic_table.specs.Seated.{TableId}
 use Rattle.step_turn.specs.Meaning.{Meaning, Rose}
-use Rattle.step_turn.specs.Histories.{calls, call_count, made_by, failures, Counted, Every, Among, StartsWith, IsLegal, Reaches}
-use Rattle.step_turn.specs.Seats.{SeatValue, TurnValue, has_number, missing, AreOf, Closes}
-use Rattle.step_turn.specs.Order.{chair, seated, joined, longer, view_of, own_of, at_rest, ChairFits, Fits, IsOrdered, Knows, IsIdle, Gathers}
+use Rattle.step_turn.specs.Histories.{calls, made_by, failures, Counted, Every, Among, StartsWith}
+use Rattle.step_turn.specs.Seats.{SeatValue, TurnValue, has_number, missing, Closes}
+use Rattle.step_turn.specs.Order.{chair, joined, own_of, at_rest, ChairFits, Fits, IsOrdered, Knows, IsIdle, Gathers}
 use Rattle.step_turn.specs.declared.entry.Call.{Call}
 use Rattle.step_turn.specs.declared.entry.Entry.{Entry}
 use Rattle.step_turn.specs.declared.entry.Entry.TheVariants.{Called, Reopened}

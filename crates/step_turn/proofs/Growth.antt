@@ -1,8 +1,7 @@
 -- How a legal history goes on.
-use Rattle.std.proofs.Common.{◌≡◌, ◌⊎◌, ℕ, suc, ◌+◌, ◌≤◌, ◌<◌, ◌==◌, ◌++◌, Bool, true, false, cond, List, [], ◌∷◌, refl, sym, ap, ◌∙◌, subst, inl, inr, ⊎_elim, true≢false, arith, rules, append_assoc}
-use Rattle.std.specs.Prelude.{Option, Some, None}
-use Rattle.step_turn.specs.Meaning.{Meaning, Standing, running, halted, Rose, IsAt, Calls, Reopens, HasCause, Stepped, ReopenedSo, IsRefused}
-use Rattle.step_turn.specs.Histories.{calls, call_count, made_by, Numbered, Counted, Moves, Replays, turn_of, IsLegal, Reaches, StartsWith, Every}
+use Rattle.std.proofs.Common.{◌≡◌, ℕ, suc, ◌+◌, ◌==◌, ◌++◌, Bool, true, false, cond, List, [], ◌∷◌, refl, ap, subst, arith}
+use Rattle.step_turn.specs.Meaning.{Meaning, Standing, running, IsAt}
+use Rattle.step_turn.specs.Histories.{calls, call_count, made_by, Numbered, Counted, Replays, IsLegal, Reaches}
 use Rattle.step_turn.specs.declared.entry.Call.{Call}
 use Rattle.step_turn.specs.declared.entry.Entry.{Entry}
 use Rattle.step_turn.specs.declared.entry.Entry.TheVariants.{Called, Reopened}

@@ -1,5 +1,5 @@
 -- Each kind of step keeps the rule of a turn.
-use Rattle.std.proofs.Common.{◌≡◌, ◌≢◌, ◌⊎◌, ℕ, zero, suc, ◌+◌, ◌-◌, ◌%◌, ◌^◌, ◌≤◌, ◌<◌, ◌==◌, ◌++◌, Bool, true, false, cond, List, [], ◌∷◌, length, set, refl, sym, ap, ◌∙◌, subst, inl, inr, ⊎_elim, true≢false, arith, rules, append_assoc, eqb, eq-eqb, ne_eqb}
+use Rattle.std.proofs.Common.{◌≡◌, ◌≢◌, ◌⊎◌, ℕ, zero, suc, ◌+◌, ◌%◌, ◌^◌, ◌≤◌, ◌<◌, ◌==◌, ◌++◌, Bool, true, false, cond, List, [], ◌∷◌, length, set, refl, sym, ap, ◌∙◌, subst, inr, ⊎_elim, true≢false, arith, append_assoc, eq-eqb, ne_eqb}
 use Rattle.std.specs.Prelude.{Option, Some, None, slice_index, slice_set, MatchBool}
 use Rattle.std.proofs.lemmas.List.{append-nil}
 use Rattle.std.proofs.Math.Nat.{mod-eq_of_lt}
@@ -9,12 +9,11 @@ use native.Mathlib.Decide.{ℕ_discrete}
 use prog.Atomic.{either}
 use lib.ListN.{get_elem?}
 use Rattle.std.proofs.lemmas.Bool.Decides.{nat_tests}
-use Rattle.atomic_table.specs.Table.{State, Me, Step, step, Act, keeps, takes, gives, rest, Valid, homes_after, carried_after, put_back, Allows, Splits, Joins, stepped, opening}
-use Rattle.atomic_table.proofs.Lists.{at_set, at_snoc, at_last, at_longer, set_again, set_here, set_else}
+use Rattle.atomic_table.specs.Table.{State, Me, step, Act, keeps, takes, gives, Valid, carried_after, put_back, Allows, stepped}
+use Rattle.atomic_table.proofs.Lists.{at_set, set_again, set_here, set_else}
 use Rattle.step_turn.specs.Meaning.{Meaning}
-use Rattle.step_turn.specs.Histories.{calls, call_count, made_by, turn_of, Every, Among, StartsWith, IsLegal, Reaches}
-use Rattle.step_turn.specs.Order as order
-use Rattle.step_turn.specs.Order.{chair, spent, making, maker, seated, noted, left_of, right_of, longer, joined, with_ticket, looked, with_call, served, Book, ChairFits, Fits, IsOrdered, HasChair, is_ticket, Waits, TookTicket, Looked, Advanced}
+use Rattle.step_turn.specs.Histories.{calls, call_count, made_by, turn_of, Every, StartsWith, IsLegal, Reaches}
+use Rattle.step_turn.specs.Order.{spent, with_ticket, looked, with_call, served, Book, ChairFits, Fits, IsOrdered, HasChair, is_ticket, Waits, TookTicket, Looked, Advanced}
 use Rattle.step_turn.specs.declared.entry.Call.{Call}
 use Rattle.step_turn.specs.declared.entry.Entry.{Entry}
 use Rattle.step_turn.specs.declared.view.Chair.{Chair}

@@ -1,5 +1,6 @@
 mod Calling
 mod Closing
+mod Counting
 mod Growth
 mod Keeping
 mod Making

@@ -1,30 +1,23 @@
 -- A turn that is made, its seats and notes, and joins keep the rule.
-use Rattle.std.proofs.Common.{◌≡◌, ◌≢◌, ◌⊎◌, ℕ, zero, suc, ◌+◌, ◌-◌, ◌%◌, ◌^◌, ◌≤◌, ◌<◌, ◌==◌, ◌++◌, Bool, true, false, cond, List, [], ◌∷◌, length, set, refl, sym, ap, ◌∙◌, subst, inl, inr, ⊎_elim, true≢false, arith, rules, append_assoc, eqb, ltb, eq-eqb, ne_eqb, lit<}
-use Rattle.std.specs.Prelude.{Option, Some, None, slice_index, slice_set, MatchBool}
-use Rattle.std.proofs.lemmas.List.{append-nil}
-use Rattle.std.proofs.Math.Nat.{mod-eq_of_lt}
-use mathlib.Core.Option.{some, none, some-ne-none, some-injective}
-use mathlib.Core.Logic.{dite}
-use native.Mathlib.Decide.{ℕ_discrete}
-use prog.Atomic.{either}
+use Rattle.std.proofs.Common.{◌≡◌, ◌≢◌, ℕ, zero, suc, ◌+◌, ◌-◌, ◌<◌, ◌==◌, ◌++◌, Bool, true, false, cond, List, [], ◌∷◌, length, set, refl, sym, ap, ◌∙◌, subst, inl, inr, ⊎_elim, arith, ltb, eq-eqb, ne_eqb, lit<}
+use Rattle.std.specs.Prelude.{Option, Some, None, slice_set}
+use mathlib.Core.Option.{some, some-ne-none, some-injective}
 use lib.ListN.{get_elem?}
-use Rattle.std.proofs.lemmas.Bool.Decides.{nat_tests}
-use Rattle.atomic_table.specs.Table.{State, Me, Step, step, Act, keeps, takes, gives, rest, Valid, homes_after, carried_after, put_back, Allows, Splits, Joins, stepped, opening}
-use Rattle.atomic_table.proofs.Lists.{at_set, at_snoc, at_last, at_longer, set_again, set_here, set_else}
+use Rattle.atomic_table.specs.Table.{State, Splits, Joins, opening}
+use Rattle.atomic_table.proofs.Lists.{at_longer, set_again, set_else}
 use Rattle.step_turn.specs.Meaning.{Meaning}
-use Rattle.step_turn.specs.Histories.{calls, call_count, made_by, turn_of, Every, Among, StartsWith, IsLegal, Reaches}
+use Rattle.step_turn.specs.Histories.{calls, made_by, Every, StartsWith, Reaches}
 use Rattle.atomic_table.specs.Seated.{TableId}
 use Rattle.step_turn.specs.Seats.{SeatValue, AreNew}
-use Rattle.step_turn.specs.Order as order
-use Rattle.step_turn.specs.Order.{chair, spent, making, maker, seated, noted, left_of, right_of, longer, joined, with_ticket, looked, with_call, served, Book, ChairFits, Fits, IsOrdered, HasChair, is_ticket, Waits, TookTicket, Looked, Advanced}
+use Rattle.step_turn.specs.Order.{spent, making, maker, seated, noted, left_of, right_of, joined, Book, ChairFits, Fits, IsOrdered, HasChair}
 use Rattle.step_turn.specs.declared.entry.Call.{Call}
 use Rattle.step_turn.specs.declared.entry.Entry.{Entry}
 use Rattle.step_turn.specs.declared.view.Chair.{Chair}
 use Rattle.step_turn.specs.declared.view.View.{View}
-use Rattle.step_turn.proofs.Growth.{call_count-append, calls-append, made_by-append, reaches-legal}
+use Rattle.step_turn.proofs.Growth.{reaches-legal}
 use Rattle.step_turn.specs.declared.entry.Entry.TheVariants.{Called, Reopened}
-use Rattle.step_turn.specs.Meaning.{Standing, running, halted}
-use Rattle.step_turn.proofs.Keeping.{off, every_map, every_append, set_each, same_at, at_below, seats_of, away_else, held_else, none_some}
+use Rattle.step_turn.specs.Meaning.{running}
+use Rattle.step_turn.proofs.Keeping.{off, every_map, every_append, set_each, seats_of, away_else, held_else, none_some}
 
 module _ {S Q A : Type 0} (M : Meaning S Q A) (start : S) (count : ℕ) where
   abbrev Ruled : State (Option S) (View Q A) → Type 0

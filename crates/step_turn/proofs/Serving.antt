@@ -1,12 +1,12 @@
 -- What a call adds to a history.
-use Rattle.std.proofs.Common.{◌≡◌, ◌⊎◌, ℕ, suc, ◌+◌, ◌≤◌, ◌<◌, ◌++◌, Bool, true, false, List, [], ◌∷◌, refl, sym, ap, ◌∙◌, subst, inl, inr, true≢false, arith, rules}
-use Rattle.std.specs.Prelude.{Option, Some, None, Result, Ok, Err}
-use Rattle.step_turn.specs.Meaning.{Meaning, Standing, running, halted, Rose, IsAt, Calls, Reopens, HasCause, Stepped, ReopenedSo, IsRefused}
-use Rattle.step_turn.specs.Histories.{call_count, Numbered, Counted, Replays, turn_of, Reaches}
-use Rattle.step_turn.specs.Order.{Adds, IsAdded}
+use Rattle.std.proofs.Common.{◌≡◌, ℕ, suc, ◌≤◌, true, false, List, [], ◌∷◌, refl, sym, ◌∙◌, subst, true≢false}
+use Rattle.std.specs.Prelude.{Some, None, Ok, Err}
+use Rattle.step_turn.specs.Meaning.{Meaning, Standing, running, halted, IsAt, Calls, Reopens, HasCause, Stepped, ReopenedSo}
+use Rattle.step_turn.specs.Histories.{call_count, Replays, turn_of, Reaches}
+use Rattle.step_turn.specs.Order.{IsAdded}
 use Rattle.step_turn.specs.declared.entry.Call.{Call}
 use Rattle.step_turn.specs.declared.entry.Entry.{Entry}
-use Rattle.step_turn.specs.declared.entry.Entry.TheVariants.{Called, Reopened}
+use Rattle.step_turn.specs.declared.entry.Entry.TheVariants.{Called}
 use Rattle.step_turn.proofs.Growth.{reaches-append}
 
 module _ {S Q A : Type 0} (M : Meaning S Q A) where

@@ -1,6 +1,6 @@
 -- Histories of an object, and the legal ones.
-use Rattle.std.specs.Prelude.{◌≡◌, ◌⊎◌, ℕ, suc, ◌+◌, ◌-◌, ◌^◌, ◌≤◌, ◌==◌, ◌++◌, Bool, true, false, cond, min, List, [], ◌∷◌, Option, Some, None}
-use Rattle.step_turn.specs.Meaning.{Meaning, Standing, running, halted, Rose, IsAt, Calls, Reopens}
+use Rattle.std.specs.Prelude.{◌≡◌, ◌⊎◌, ℕ, suc, ◌≤◌, ◌==◌, ◌++◌, true, cond, List, [], ◌∷◌, Option, Some, None}
+use Rattle.step_turn.specs.Meaning.{Meaning, Standing, running, Rose, IsAt, Calls, Reopens}
 use Rattle.step_turn.specs.declared.entry.Call.{Call}
 use Rattle.step_turn.specs.declared.entry.Entry.{Entry}
 use Rattle.step_turn.specs.declared.entry.Entry.TheVariants.{Called, Reopened}

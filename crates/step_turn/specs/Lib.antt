@@ -2,3 +2,4 @@ pub mod Meaning
 pub mod Histories
 pub mod Seats
 pub mod Order
+pub mod Counters

@@ -1,5 +1,5 @@
 -- What contracts see of a turn, of seats and of notes, and what their calls promise.
-use Rattle.std.specs.Prelude.{◌≡◌, ℕ, zero, suc, ◌+◌, ◌-◌, ◌^◌, ◌<◌, ◌≤◌, ◌==◌, ◌||◌, ◌++◌, Bool, true, false, cond, min, List, [], ◌∷◌}
+use Rattle.std.specs.Prelude.{◌≡◌, ℕ, zero, suc, ◌+◌, ◌-◌, ◌^◌, ◌<◌, ◌≤◌, ◌==◌, ◌||◌, ◌++◌, Bool, false, cond, min, List, [], ◌∷◌}
 use Rattle.atomic_table.specs.Seated.{TableId}
 use Rattle.step_turn.specs.Meaning.{Meaning}
 use Rattle.step_turn.specs.Histories.{calls, made_by, Every, StartsWith, failures, IsLegal, Reaches}

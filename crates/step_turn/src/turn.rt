@@ -15,17 +15,21 @@ use crate::view::View;
 use atomic_table::{Badge, Table};
 use std::alloc::{AllocError, Global};
 use std::marker::{Brand, Model};
-use std::mem;
 use std::snapshot::Snapshot;
 use std::sync::Wait;
+use std::{mem, thread};
 
 /// Memory ran out.
 pub type NoMemory = AllocError;
+
+// How often a waiting seat looks before it sleeps.
+const LOOKS: u32 = 100;
 
 // A seat that takes part in a call.
 type Place<S, Q, A> = atomic_table::Seat<Option<S>, View<Q, A>>;
 
 /// An object that threads share. Each takes the turn, makes one step, and gets a receipt.
+#[derive(Drop)]
 pub struct Turn<S: Steps> {
     table: Table<Option<S>, View<S::Asked, S::Answer>, Opening<S>, Order, Global>,
     seats: u64,
@@ -43,6 +47,7 @@ impl<S: Steps> Model for Turn<S> {
 }
 
 /// A seat of the turn isn't among those that were handed in.
+#[derive(Drop)]
 pub struct CloseFault<S: Steps> {
     pub turn: Turn<S>,
     pub seats: Vec<Seat<S::Asked, S::Answer>>,
@@ -172,7 +177,20 @@ impl<S: Steps> Turn<S> {
             if found == ticket {
                 break;
             }
+            self.pause(rt, found);
         }
+    }
+
+    // Waits for another ticket to be served than this one: a little while awake, and then asleep.
+    fn pause<R: Wait>(&self, rt: &R, served: u64) {
+        let shared = &self.table.shared;
+        for _ in 0..LOOKS {
+            if shared.peek(SERVING) != served {
+                return;
+            }
+            thread::yield_now();
+        }
+        shared.park(rt, SERVING, (served % (1 << 32)) as u32);
     }
 
     // Takes a ticket and waits for the turn. Answers the ticket.

@@ -1,4 +1,4 @@
-use Rattle.std.proofs.Common.{◌≡◌, ◌++◌, sym, ap, ◌∙◌, subst, arith}
+use Rattle.std.proofs.Common.{◌++◌, sym, ap, ◌∙◌, subst, arith}
 use Rattle.step_turn.specs.Histories.{Reaches, turn_of}
 use Rattle.step_turn.specs.Order.{first_number}
 use Rattle.step_turn.proofs.Keeping.{advances}

@@ -1,7 +1,7 @@
-use Rattle.std.proofs.Common.{◌≡◌, ◌+◌, ℕ, [], ◌∷◌, Some, None, true, false, refl, sym, ap, ◌∙◌, subst}
+use Rattle.std.proofs.Common.{◌≡◌, ◌+◌, [], ◌∷◌, Some, refl, sym, ap, ◌∙◌, subst}
 use Rattle.step_turn.specs.Histories.{IsLegal, Reaches}
 use Rattle.step_turn.specs.Seats.{SeatValue, Answered}
-use Rattle.step_turn.specs.Order.{view_of, own_of, at_rest, with_ticket, Looked, Advanced, HasChair}
+use Rattle.step_turn.specs.Order.{view_of, own_of, at_rest, with_ticket, Looked}
 use Rattle.step_turn.proofs.Calling.{placed, has_begun, ends}
 use Rattle.step_turn.proofs.turn.Turn.call.Goals as goal
 

@@ -1,4 +1,4 @@
-use Rattle.std.proofs.Common.{◌≡◌, ℕ, ◌<◌, ◌++◌, [], ◌∷◌, get_or, Some, None, true, false, zero, suc, refl, sym, ap, ◌∙◌, subst, inl, arith, rules}
+use Rattle.std.proofs.Common.{◌≡◌, ℕ, ◌++◌, [], ◌∷◌, get_or, false, refl, sym, ap, ◌∙◌, subst, inl, arith}
 use Rattle.std.specs.Slots.{slots_items, slots_len, slots_filled}
 use Rattle.atomic_table.specs.Table.{Final, Seen}
 use Rattle.step_turn.specs.Seats.{SeatValue, AreOf, Closes}
@@ -15,8 +15,7 @@ pub gather-requires-clause-place : goal.gather-requires-clause-place
 gather-requires-clause-place g c =
     let i = c.into_seat-place.ensures in
     let e = placed (at_rest c.first.inside.number) c.first.inside.badge.views c.first.inside.badge.views c.into_seat-place.result.me c.first.invariant refl i.2 i.3 in
-    let of = every_last (λ (x : SeatValue g.row.S-Asked.Denot g.row.S-Answer.Denot). x.turn ≡ c.args.self.id) c.pop.new.self.items c.in-Some.first (subst (AreOf c.args.self.id) c.in-Some.ensures.items c.requires.turn) in
-    (
+    let of = every_last (λ (x : SeatValue g.row.S-Asked.Denot g.row.S-Answer.Denot). x.turn ≡ c.args.self.id) c.pop.new.self.items c.in-Some.first (subst (AreOf c.args.self.id) c.in-Some.ensures.items c.requires.turn) in (
       i.0 ∙ ap (λ x. x.turn) c.first.view_is ∙ of,
       (i.3, ap (λ m. m.0.ticket) e, ap (λ m. m.0.has_turn) e, ap (λ m. m.0.to_make) e),
       (_, ap (λ m. m.0.chairs) e),
@@ -58,7 +57,7 @@ returns g c =
     let known : Knows c.into_seat-place.result.me.0 first = subst (λ m. Knows m.0 first) (sym e) (inl refl, inl refl) in
     let all_is = c.in-Some.ensures.items ∙ ap (λ x. c.pop.new.self.items ++ x ∷ []) (sym c.first.view_is) in
     let d = closes M c.args.self c.gather.new.place.id c.gather.new.place.me first c.pop.new.self.items c.args.seats.items (slots_items c.close_with-closed.result.words) (slots_items c.close_with-closed.result.slots) c.take-slot.result
-          all_is (G.keeps_known first known) (subst (Every (Knows c.gather.new.place.me.0)) (sym (G.all_is)) G.knows) G.idle.1 c.requires.all final c.take-slot.ensures.value in
+    all_is (G.keeps_known first known) (subst (Every (Knows c.gather.new.place.me.0)) (sym (G.all_is)) G.knows) G.idle.1 c.requires.all final c.take-slot.ensures.value in
     subst (λ o. Closes M c.args.self c.args.seats.items o) (same_some d.0 c.in-Some-slot.object (sym d.1 ∙ c.in-Some-slot.is)) d.2
 
 pub unreachable-requires-in_default-slot : goal.unreachable-requires-in_default-slot
@@ -76,5 +75,5 @@ unreachable-requires-in_default-slot g c =
     let known : Knows c.into_seat-place.result.me.0 first = subst (λ m. Knows m.0 first) (sym e) (inl refl, inl refl) in
     let all_is = c.in-Some.ensures.items ∙ ap (λ x. c.pop.new.self.items ++ x ∷ []) (sym c.first.view_is) in
     let d = closes M c.args.self c.gather.new.place.id c.gather.new.place.me first c.pop.new.self.items c.args.seats.items (slots_items c.close_with-closed.result.words) (slots_items c.close_with-closed.result.slots) c.take-slot.result
-          all_is (G.keeps_known first known) (subst (Every (Knows c.gather.new.place.me.0)) (sym (G.all_is)) G.knows) G.idle.1 c.requires.all final c.take-slot.ensures.value in
+    all_is (G.keeps_known first known) (subst (Every (Knows c.gather.new.place.me.0)) (sym (G.all_is)) G.knows) G.idle.1 c.requires.all final c.take-slot.ensures.value in
     c.in_default-slot.not-Some d.0 d.1

@@ -1,7 +1,6 @@
-use Rattle.std.proofs.Common.{◌≡◌, ℕ, [], ◌∷◌, ◌++◌, None, false, refl, sym, ap, ◌∙◌, subst, arith, rules}
+use Rattle.std.proofs.Common.{◌≡◌, [], ◌∷◌, refl, sym, ap, ◌∙◌, subst, arith, rules}
 use Rattle.step_turn.specs.Seats.{SeatValue, AreOf}
-use Rattle.step_turn.specs.Histories.{Every}
-use Rattle.step_turn.specs.Order.{view_of, own_of, at_rest, joined, Gathers}
+use Rattle.step_turn.specs.Order.{view_of, at_rest, joined, Gathers}
 use Rattle.step_turn.proofs.Calling.{placed}
 use Rattle.step_turn.proofs.Closing.{gathers_first, gathers_more, every_front, every_last}
 use Rattle.step_turn.proofs.Making.{joins}
@@ -16,8 +15,7 @@ loop-seat-preserved g c =
     let j = c.into_seat-joining.ensures in
     let number = c.seat.inside.number in
     let f = placed (at_rest number) c.seat.inside.badge.views c.seat.inside.badge.views c.into_seat-joining.result.me c.seat.invariant refl j.2 j.3 in
-    let me = c.loop-seat.place.me in
-    (
+    let me = c.loop-seat.place.me in (
       c.join_seat.ensures.0 ∙ i.0,
       c.join_seat.ensures.1 ∙ i.1,
       every_front (λ (x : SeatValue g.row.S-Asked.Denot g.row.S-Answer.Denot). x.turn ≡ c.args.self.now.id) c.pop.new.self.items (c.in-Some.seat ∷ []) (subst (AreOf c.args.self.now.id) c.in-Some.ensures.items i.2),
@@ -35,8 +33,7 @@ join_seat-requires g c =
     let number = c.seat.inside.number in
     let f = placed (at_rest number) c.seat.inside.badge.views c.seat.inside.badge.views c.into_seat-joining.result.me c.seat.invariant refl j.2 j.3 in
     let id = ap (λ t. t.id) (sym c.self.view_is) in
-    let of = every_last (λ (x : SeatValue g.row.S-Asked.Denot g.row.S-Answer.Denot). x.turn ≡ c.args.self.now.id) c.pop.new.self.items c.in-Some.seat (subst (AreOf c.args.self.now.id) c.in-Some.ensures.items i.2) in
-    (
+    let of = every_last (λ (x : SeatValue g.row.S-Asked.Denot g.row.S-Answer.Denot). x.turn ≡ c.args.self.now.id) c.pop.new.self.items c.in-Some.seat (subst (AreOf c.args.self.now.id) c.in-Some.ensures.items i.2) in (
       i.0 ∙ c.requires.place.0 ∙ id,
       j.0 ∙ ap (λ x. x.turn) c.seat.view_is ∙ of ∙ id,
       j.3,

@@ -1,4 +1,4 @@
-use Rattle.std.proofs.Common.{◌≡◌, sym, ap, ◌∙◌, subst, arith}
+use Rattle.std.proofs.Common.{sym, ap, ◌∙◌, subst, arith}
 use Rattle.step_turn.specs.Histories.{IsLegal, Reaches}
 use Rattle.step_turn.proofs.Keeping.{looks}
 use Rattle.step_turn.proofs.turn.Turn.look_as.Goals as goal

@@ -1,4 +1,4 @@
-use Rattle.std.proofs.Common.{◌≡◌, ◌+◌, ◌≤◌, ◌∷◌, [], ◌++◌, length, sym, ap, ◌∙◌, subst, arith, length-append}
+use Rattle.std.proofs.Common.{◌≡◌, ◌+◌, ◌≤◌, ◌∷◌, [], length, sym, ap, ◌∙◌, subst, arith, length-append}
 use Rattle.step_turn.specs.Seats.{AreNew}
 use Rattle.step_turn.proofs.Making.{are_new-push}
 use Rattle.step_turn.proofs.turn.Turn.make_seats.Goals as goal

@@ -1,7 +1,7 @@
-use Rattle.std.proofs.Common.{◌≡◌, ℕ, [], ◌∷◌, None, false, refl, sym, ap, ◌∙◌, subst, arith}
+use Rattle.std.proofs.Common.{◌≡◌, [], ◌∷◌, refl, sym, ap, ◌∙◌, subst, arith}
 use Rattle.step_turn.specs.Histories.{IsLegal, Reaches}
 use Rattle.step_turn.specs.Seats.{SeatValue, NoteValue, Met}
-use Rattle.step_turn.specs.Order.{view_of, own_of, at_rest, chair, noted, joined, Looked}
+use Rattle.step_turn.specs.Order.{view_of, own_of, at_rest, noted, joined, Looked}
 use Rattle.step_turn.proofs.Calling.{placed, meets}
 use Rattle.step_turn.proofs.Making.{joins}
 use Rattle.step_turn.proofs.turn.Turn.meet.Goals as goal

@@ -1,6 +1,6 @@
-use Rattle.std.proofs.Common.{◌≡◌, ℕ, [], ◌∷◌, None, false, refl, sym, ap, ◌∙◌, subst, arith}
+use Rattle.std.proofs.Common.{◌≡◌, [], ◌∷◌, refl, sym, ap, ◌∙◌, subst, arith}
 use Rattle.step_turn.specs.Seats.{SeatValue}
-use Rattle.step_turn.specs.Order.{view_of, own_of, at_rest, noted, left_of, right_of, HasChair}
+use Rattle.step_turn.specs.Order.{view_of, own_of, at_rest, noted, left_of, right_of}
 use Rattle.step_turn.proofs.Calling.{placed}
 use Rattle.step_turn.proofs.Making.{notes}
 use Rattle.step_turn.proofs.turn.Turn.note.Goals as goal

@@ -1,5 +1,4 @@
-use Rattle.std.proofs.Common.{◌≡◌, ℕ, suc, ◌+◌, ◌-◌, [], ◌∷◌, None, false, refl, sym, ap, ◌∙◌, subst, arith}
-use Rattle.step_turn.specs.Seats.{SeatValue}
+use Rattle.std.proofs.Common.{◌≡◌, suc, ◌+◌, ◌-◌, [], ◌∷◌, refl, sym, ap, ◌∙◌, subst, arith}
 use Rattle.step_turn.specs.Order.{view_of, own_of, at_rest, making, left_of, right_of}
 use Rattle.step_turn.proofs.Making.{makes_seat, next_seat}
 use Rattle.step_turn.proofs.turn.Turn.seat.Goals as goal

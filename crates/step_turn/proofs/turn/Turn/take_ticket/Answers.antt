@@ -1,4 +1,4 @@
-use Rattle.std.proofs.Common.{◌≡◌, ◌∷◌, [], refl, sym, ap, ◌∙◌, subst, arith, rules}
+use Rattle.std.proofs.Common.{sym, ap, ◌∙◌, subst, arith, rules}
 use Rattle.step_turn.specs.Order.{HasChair}
 use Rattle.step_turn.proofs.Keeping.{takes_ticket}
 use Rattle.step_turn.proofs.turn.Turn.take_ticket.Goals as goal

@@ -1,4 +1,4 @@
-use Rattle.std.proofs.Common.{◌≡◌, ◌+◌, ◌^◌, ◌<◌}
+use Rattle.std.proofs.Common.{◌≡◌}
 use Rattle.step_turn.proofs.turn.Turn.take_ticket.Given as goal
 
 abbrev pub invariant-loop : goal.invariant-loop

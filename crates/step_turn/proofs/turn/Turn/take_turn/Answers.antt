@@ -1,4 +1,4 @@
-use Rattle.std.proofs.Common.{◌≡◌, [], ◌∷◌, Some, sym, ap, ◌∙◌, subst}
+use Rattle.std.proofs.Common.{[], ◌∷◌, Some, sym, ap, ◌∙◌, subst}
 use Rattle.step_turn.specs.Histories.{Reaches}
 use Rattle.step_turn.specs.Order.{IsAdded, Made, Advanced, first_number}
 use Rattle.step_turn.proofs.Keeping.{same_object}
