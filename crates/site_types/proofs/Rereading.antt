@@ -1,6 +1,8 @@
 -- What the values of each form make is written as that form with these values. So a request that was read is read again from its line.
 use Rattle.site_types.proofs.Common.{◌≡◌, ℕ, List, [], ◌∷◌, Bool, true, false, nat_lt, Option, Some, None, option_map, unwrap_or, if◌then◌else◌, Result, Ok, Err, codes, refl, sym, ap, ◌∙◌, IfOk, option_and_then, decimal, calendar_text, calendar_of, Scheduling, are_marks, is_one, pair_of, policy_add_of, schedule_keys, schedule_made, schedule_of, schedule_texts, spelled, unit_add_of, unit_change_of, id_of, id_text, Given, name_of, IsFormed, number_between, path_of, written, windows_text, windows_of, rule_of, offset_of, offset_text, Request}
+use Rattle.site_types.specs.Forms.{restore_of}
 use Rattle.site_types.specs.Requests.{IsReading, read_words}
+use Rattle.site_types.specs.declared.id.BackupId.{BackupId}
 use Rattle.site_types.specs.Values.{kind_of, kind_text, type_of, type_text, start_of, start_text, yes_or_no, yes_or_no_text}
 use Rattle.site_types.specs.declared.calendar.CalendarItem.{CalendarItem}
 use Rattle.site_types.specs.declared.forms.FormName.{FormName}
@@ -54,6 +56,18 @@ policy_add_spelled (Some policy) None lifecycle r is = absurd (cc is)
 policy_add_spelled (Some policy) (Some policy_type) None r is = absurd (cc is)
 policy_add_spelled (Some policy) (Some policy_type) (Some lifecycle) r is = ap spelled (sym (same_value (request.PolicyAdd policy policy_type lifecycle) r is))
 
+-- A restore, of an image or of a client.
+restore_spelled : (id : Option BackupId) (copy : Option ℕ) (client policy : Option (List ℕ)) (before : Option ℕ) (r : Request) → restore_of id copy client policy before ≡ Some r
+    → spelled r ≡ (form.Restore, option_map id_text id ∷ option_map decimal copy ∷ client ∷ policy ∷ option_map decimal before ∷ [])
+restore_spelled (Some id) copy None None None r is = ap spelled (sym (same_value (request.Restore id copy) r is))
+restore_spelled (Some id) copy None None (Some moment) r is = absurd (cc is)
+restore_spelled (Some id) copy None (Some policy) before r is = absurd (cc is)
+restore_spelled (Some id) copy (Some client) policy before r is = absurd (cc is)
+restore_spelled None None None policy before r is = absurd (cc is)
+restore_spelled None None (Some client) None before r is = absurd (cc is)
+restore_spelled None None (Some client) (Some policy) before r is = ap spelled (sym (same_value (request.RestoreAt client policy before) r is))
+restore_spelled None (Some number) client policy before r is = absurd (cc is)
+
 module _ (makes : Scheduling) (name : FormName) (so : (policy schedule : List ℕ) (kind : Kind) (frequency : Option ℕ) (calendar : Option (List CalendarItem)) (windows : Windows) → spelled (makes policy schedule kind frequency calendar windows) ≡ (name, schedule_texts policy schedule kind frequency calendar windows)) where
   scheduled : (policy schedule : Option (List ℕ)) (kind : Option Kind) (frequency : Option ℕ) (calendar : Option (List CalendarItem)) (windows : Option Windows) (r : Request) → schedule_of makes policy schedule kind frequency calendar windows ≡ Some r
       → spelled r ≡ (name, policy ∷ schedule ∷ option_map kind_text kind ∷ option_map decimal frequency ∷ option_map calendar_text calendar ∷ option_map windows_text windows ∷ [])
@@ -95,9 +109,8 @@ spells form.Backup v r fit is =
     one_spelled (λ client. request.Backup client (option_and_then name_of (v (codes "policy"))) (option_and_then name_of (v (codes "schedule"))) (option_and_then start_of (v (codes "start"))))
     (λ client. (form.Backup, client ∷ option_and_then name_of (v (codes "policy")) ∷ option_and_then name_of (v (codes "schedule")) ∷ option_map start_text (option_and_then start_of (v (codes "start"))) ∷ [])) (λ client. refl) _ r is
     ∙ (λ i. (form.Backup, name_kept _ (fit (codes "client")) i ∷ name_kept _ (fit (codes "policy")) i ∷ name_kept _ (fit (codes "schedule")) i ∷ kept start_of start_text start_spelled _ (fit (codes "start")) i ∷ []))
-spells form.Restore v r fit is =
-    one_spelled (λ id. request.Restore id (option_and_then (number_between 1 32) (v (codes "copy")))) (λ id. (form.Restore, option_map id_text id ∷ option_map decimal (option_and_then (number_between 1 32) (v (codes "copy"))) ∷ [])) (λ id. refl) _ r is
-    ∙ (λ i. (form.Restore, kept id_of id_text id_spelled _ (fit (codes "id")) i ∷ number_kept 1 32 _ (fit (codes "copy")) i ∷ []))
+spells form.Restore v r fit is = restore_spelled _ _ _ _ _ r is ∙ (λ i.
+    (form.Restore, kept id_of id_text id_spelled _ (fit (codes "id")) i ∷ number_kept 1 32 _ (fit (codes "copy")) i ∷ name_kept _ (fit (codes "client")) i ∷ name_kept _ (fit (codes "policy")) i ∷ number_kept 0 250000000000 _ (fit (codes "before")) i ∷ []))
 
 pub reread : (words : List (List ℕ)) (r : Request) → read_words words ≡ Ok r → IsFormed r
 reread words r is = words_reread spells words r is

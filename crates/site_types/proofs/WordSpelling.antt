@@ -6,7 +6,7 @@ use Rattle.site_types.specs.Values.{kind_text, kind_of, type_text, type_of, yes_
 use Rattle.site_types.specs.declared.image.Kind.{Kind}
 use Rattle.site_types.specs.declared.image.Kind.TheVariants.{Full, Differential, Cumulative}
 use Rattle.site_types.specs.declared.schedule.PolicyType.{PolicyType}
-use Rattle.site_types.specs.declared.schedule.PolicyType.TheVariants.{Raw}
+use Rattle.site_types.specs.declared.schedule.PolicyType.TheVariants.{Files, Raw}
 use Rattle.site_types.specs.declared.schedule.Start.{Start}
 use Rattle.site_types.specs.declared.schedule.Start.TheVariants.{Manual, Scheduled}
 use Rattle.site_types.proofs.OptionLemmas.{guarded, same_value}
@@ -50,7 +50,7 @@ pub kind_spelled : (t : List ℕ) (k : Kind) → kind_of t ≡ Some k → kind_t
 kind_spelled t k = word_or kind_text (codes "full") Full _ t k refl (word_or kind_text (codes "diff") Differential _ t k refl (word_or kind_text (codes "cumul") Cumulative None t k refl (no_word kind_text t k)))
 
 pub type_spelled : (t : List ℕ) (k : PolicyType) → type_of t ≡ Some k → type_text k ≡ t
-type_spelled t k = word_or type_text (codes "raw") Raw None t k refl (no_word type_text t k)
+type_spelled t k = word_or type_text (codes "files") Files _ t k refl (word_or type_text (codes "raw") Raw None t k refl (no_word type_text t k))
 
 pub yes_or_no_spelled : (t : List ℕ) (b : Bool) → yes_or_no t ≡ Some b → yes_or_no_text b ≡ t
 yes_or_no_spelled t b = word_or yes_or_no_text (codes "yes") true _ t b refl (word_or yes_or_no_text (codes "no") false None t b refl (no_word yes_or_no_text t b))

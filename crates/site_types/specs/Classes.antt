@@ -9,12 +9,13 @@ use Rattle.site_types.specs.declared.request.Request.{Request}
 use Rattle.site_types.specs.declared.request.Request.TheVariants as request
 use Rattle.site_types.specs.declared.schedule.Start.{Start}
 
--- a change of the site, the requests of a site file, a backup of the payload, and a restore of an image
+-- a change of the site, the requests of a site file, a backup of the payload, a restore of an image, and one of a client under a policy as it was at a moment
 pub data RequestClass : Type 0 where
   site_change : (request : Request) → RequestClass
   site_file : RequestClass
   backup : (client : List ℕ) (policy schedule : Option (List ℕ)) (start : Option Start) → RequestClass
   restore : (id : BackupId) (copy : Option ℕ) → RequestClass
+  restore_at : (client policy : List ℕ) (before : Option ℕ) → RequestClass
 
 abbrev pub class_of : Request → RequestClass
 class_of (request.UnitAdd name capacity segment fragment slots high low) = site_change (request.UnitAdd name capacity segment fragment slots high low)
@@ -35,12 +36,14 @@ class_of (request.ZoneSet rule offset) = site_change (request.ZoneSet rule offse
 class_of request.Load = site_file
 class_of (request.Backup client policy schedule start) = backup client policy schedule start
 class_of (request.Restore id copy) = restore id copy
+class_of (request.RestoreAt client policy before) = restore_at client policy before
 
 abbrev pub is_site_change : RequestClass → Bool
 is_site_change (site_change request) = true
 is_site_change site_file = false
 is_site_change (backup client policy schedule start) = false
 is_site_change (restore id copy) = false
+is_site_change (restore_at client policy before) = false
 
 -- the requests whose line may name a payload
 abbrev pub has_payload : RequestClass → Bool
@@ -48,6 +51,7 @@ has_payload (site_change request) = false
 has_payload site_file = true
 has_payload (backup client policy schedule start) = true
 has_payload (restore id copy) = false
+has_payload (restore_at client policy before) = false
 
 -- the class alone
 abbrev pub tag_of : RequestClass → Class
@@ -55,6 +59,7 @@ tag_of (site_change request) = tag.SiteChange
 tag_of site_file = tag.SiteFile
 tag_of (backup client policy schedule start) = tag.Backup
 tag_of (restore id copy) = tag.Restore
+tag_of (restore_at client policy before) = tag.Restore
 
 -- what the code has of a class
 abbrev pub class_seen : ByClass → RequestClass
@@ -62,3 +67,4 @@ class_seen (by.SiteChange request) = site_change request.now
 class_seen by.SiteFile = site_file
 class_seen (by.Backup client policy schedule start) = backup client.now (option_map (λ name. name.now) policy) (option_map (λ name. name.now) schedule) start
 class_seen (by.Restore id copy) = restore id.now copy
+class_seen (by.RestoreAt client policy before) = restore_at client.now policy.now before

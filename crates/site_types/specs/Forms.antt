@@ -1,5 +1,5 @@
 -- The table of forms: the words of each, its keys in order, and the request that their values make.
-use Rattle.std.specs.Prelude.{ℕ, ◌&&◌, Bool, true, false, nat_lt, if◌then◌else◌, List, [], ◌∷◌, codes, map, find, Option, Some, None, option_map, unwrap_or, ℤ}
+use Rattle.std.specs.Prelude.{ℕ, ◌&&◌, Bool, true, false, nat_lt, if◌then◌else◌, is_none, List, [], ◌∷◌, codes, map, find, Option, Some, None, option_map, unwrap_or, ℤ}
 use Rattle.std.specs.Fmt.{decimal}
 use Rattle.std.specs.Option.{option_zip}
 use Rattle.std.specs.Str.{bytes_eq}
@@ -16,6 +16,7 @@ use Rattle.site_types.specs.declared.calendar.CalendarItem.{CalendarItem}
 use Rattle.site_types.specs.declared.forms.Form.{Form as Row}
 use Rattle.site_types.specs.declared.forms.FormName.{FormName}
 use Rattle.site_types.specs.declared.forms.FormName.TheVariants as form
+use Rattle.site_types.specs.declared.id.BackupId.{BackupId}
 use Rattle.site_types.specs.declared.image.Kind.{Kind}
 use Rattle.site_types.specs.declared.keys.Grammar.{Grammar}
 use Rattle.site_types.specs.declared.keys.Grammar.TheVariants as grammar
@@ -98,6 +99,9 @@ id_key = key (codes "id") grammar.Id
 abbrev pub copy_key : Key
 copy_key = key (codes "copy") (grammar.Number 1 32)
 
+abbrev pub before_key : Key
+before_key = key (codes "before") (grammar.Number 0 250000000000)
+
 -- What the values of a form's keys make: the request, or nothing where one is missing or they don't go together.
 
 -- a unit that is added: the low mark is below the high one, 98 and 80 where they aren't given
@@ -155,6 +159,11 @@ schedule_made makes v = schedule_of makes (value_in name_of v policy_key) (value
 abbrev pub zone_of : Option (List ℕ) → Option ℤ → Option Request
 zone_of rule offset = if is_one rule offset then Some (request.ZoneSet rule offset) else None
 
+-- a restore: of an image by its id, or of a client under a policy; the keys of the two don't go together
+abbrev pub restore_of : Option BackupId → Option ℕ → (client policy : Option (List ℕ)) → (before : Option ℕ) → Option Request
+restore_of (Some id) copy client policy before = if is_none client && is_none policy && is_none before then Some (request.Restore id copy) else None
+restore_of None copy client policy before = if is_none copy then pair_of (λ c p. request.RestoreAt c p before) client policy else None
+
 -- a form: its one or two words, its keys in their order, and the request that their values make
 pub record Form : Type 0 where
   pub name : FormName
@@ -194,7 +203,9 @@ form_named form.Load = row form.Load (codes "bpload") None [] (λ v. Some reques
 form_named form.Backup =
     row form.Backup (codes "bpbackup") None (client_key ∷ policy_key ∷ schedule_key ∷ start_key ∷ [])
     (λ v. option_map (λ client. request.Backup client (value_in name_of v policy_key) (value_in name_of v schedule_key) (value_in start_of v start_key)) (value_in name_of v client_key))
-form_named form.Restore = row form.Restore (codes "bprestore") None (id_key ∷ copy_key ∷ []) (λ v. option_map (λ id. request.Restore id (number_in v copy_key)) (value_in id_of v id_key))
+form_named form.Restore =
+    row form.Restore (codes "bprestore") None (id_key ∷ copy_key ∷ client_key ∷ policy_key ∷ before_key ∷ [])
+    (λ v. restore_of (value_in id_of v id_key) (number_in v copy_key) (value_in name_of v client_key) (value_in name_of v policy_key) (number_in v before_key))
 
 -- all of them, in the order of the table
 abbrev pub form_names : List FormName
@@ -230,7 +241,8 @@ spelled (request.ScheduleRemove policy schedule) = (form.ScheduleRemove, Some po
 spelled (request.ZoneSet rule offset) = (form.ZoneSet, rule ∷ option_map offset_text offset ∷ [])
 spelled request.Load = (form.Load, [])
 spelled (request.Backup client policy schedule start) = (form.Backup, Some client ∷ policy ∷ schedule ∷ option_map start_text start ∷ [])
-spelled (request.Restore id copy) = (form.Restore, Some (id_text id) ∷ option_map decimal copy ∷ [])
+spelled (request.Restore id copy) = (form.Restore, Some (id_text id) ∷ option_map decimal copy ∷ None ∷ None ∷ None ∷ [])
+spelled (request.RestoreAt client policy before) = (form.Restore, None ∷ None ∷ Some client ∷ Some policy ∷ option_map decimal before ∷ [])
 
 -- the form of a request
 abbrev pub form_of : Request → Form

@@ -20,9 +20,8 @@ abbrev pub type_text : PolicyType → List ℕ
 type_text Files = codes "files"
 type_text Raw = codes "raw"
 
--- policies of files come later
 abbrev pub type_of : List ℕ → Option PolicyType
-type_of text = if bytes_eq text (codes "raw") then Some Raw else None
+type_of text = if bytes_eq text (codes "files") then Some Files else (if bytes_eq text (codes "raw") then Some Raw else None)
 
 abbrev pub yes_or_no_text : Bool → List ℕ
 yes_or_no_text true = codes "yes"

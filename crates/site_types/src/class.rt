@@ -19,4 +19,10 @@ pub enum ByClass<'a> {
         id: &'a BackupId,
         copy: Option<u8>,
     },
+    /// What a client has under a policy is given back as it was at a moment.
+    RestoreAt {
+        client: &'a Name,
+        policy: &'a Name,
+        before: Option<u64>,
+    },
 }

@@ -113,6 +113,8 @@ pub const ID: FormKey = key!(b"id", Grammar::Id);
 
 pub const COPY: FormKey = key!(b"copy", 1, 32);
 
+pub const BEFORE: FormKey = key!(b"before", 0, 250_000_000_000);
+
 macro_rules! form {
     ($name:ident, $class:ident, $takes_payload:literal, $first:literal, $second:expr, $keys:expr) => {
         Form {
@@ -178,7 +180,8 @@ pub const LOAD: Form = form! { Load, SiteFile, true, b"bpload", None, [] };
 pub const BACKUP: Form =
     form! { Backup, Backup, true, b"bpbackup", None, [CLIENT, POLICY, SCHEDULE, START] };
 
-pub const RESTORE: Form = form! { Restore, Restore, false, b"bprestore", None, [ID, COPY] };
+pub const RESTORE: Form =
+    form! { Restore, Restore, false, b"bprestore", None, [ID, COPY, CLIENT, POLICY, BEFORE] };
 
 static FORMS: [Form; 18] = [
     UNIT_ADD,

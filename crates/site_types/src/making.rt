@@ -1,14 +1,14 @@
 // The request that the values of words make, for each form. None where something is missing, or the values don't go together.
 ghost use Rattle.std.specs.Prelude.{◌≡◌, IfOk, codes, option_map};
 ghost use Rattle.std.specs.Option.{option_zip};
-ghost use Rattle.site_types.specs.Forms.{Scheduling, are_marks, form_named, pair_of, schedule_keys, schedule_made, zone_of};
+ghost use Rattle.site_types.specs.Forms.{Scheduling, are_marks, form_named, pair_of, restore_of, schedule_keys, schedule_made, zone_of};
 ghost use Rattle.site_types.specs.Keys.{among, given_among, name_of};
 ghost use Rattle.site_types.specs.Paths.{path_of};
 ghost use Rattle.site_types.specs.declared.forms.FormName.TheVariants as form;
 ghost use Rattle.site_types.specs.declared.request.Request.TheVariants as request;
 
 use crate::forms::{
-    ACTIVE, CALENDAR, CAPACITY, CLIENT, COPY, FRAGMENT, FREQUENCY, FormName, HIGH, ID, KIND,
+    ACTIVE, BEFORE, CALENDAR, CAPACITY, CLIENT, COPY, FRAGMENT, FREQUENCY, FormName, HIGH, ID, KIND,
     LIFECYCLE, LOW, NAME, OFFSET, PATH, POLICY, RULE, SCHEDULE, SEGMENT, SLOTS, START, TYPE,
     WINDOWS,
 };
@@ -18,7 +18,7 @@ use crate::values::{
     policy_type_among, rule_among, start_among, u8_among, u32_among, windows_among,
     yes_or_no_among,
 };
-use crate::{CalendarItem, Kind, ListOf, Name, NoMemory, Request, Text, Windows};
+use crate::{BackupId, CalendarItem, Kind, ListOf, Name, NoMemory, Request, Text, Windows};
 use std::alloc::Global;
 
 // The marks of a unit that is added without them.
@@ -75,10 +75,7 @@ impl FormName {
             }
             FormName::Load => Ok(Some(Request::Load)),
             FormName::Backup => backup(alloc, words),
-            FormName::Restore => {
-                let copy = u8_among(words, &COPY);
-                Ok(id_among(alloc, words, &ID)?.map(|id| Request::Restore { id, copy }))
-            }
+            FormName::Restore => restore(alloc, words),
         }
     }
 }
@@ -280,4 +277,40 @@ fn backup(alloc: Global, words: &[Text]) -> Result<Option<Request>, NoMemory>
         schedule: name_among(alloc, words, &SCHEDULE)?,
         start: start_among(words, &START),
     }))
+}
+
+// By an id, or by a client and a policy: the keys of the two don't go together.
+fn restore(alloc: Global, words: &[Text]) -> Result<Option<Request>, NoMemory>
+    ensures { IfOk result (λ o. o ≡ (form_named form.Restore).made (given_among (form_named form.Restore).keys words.now)) }
+{
+    let id = id_among(alloc, words, &ID)?;
+    let copy = u8_among(words, &COPY);
+    let client = name_among(alloc, words, &CLIENT)?;
+    let policy = name_among(alloc, words, &POLICY)?;
+    let before = number_among(words, &BEFORE);
+    Ok(restore_of(id, copy, client, policy, before))
+}
+
+fn restore_of(
+    id: Option<BackupId>,
+    copy: Option<u8>,
+    client: Option<Name>,
+    policy: Option<Name>,
+    before: Option<u64>,
+) -> Option<Request>
+    ensures { result ≡ restore_of id copy client policy before }
+{
+    match id {
+        Some(id) if client.is_none() && policy.is_none() && before.is_none() => {
+            Some(Request::Restore { id, copy })
+        }
+        None if copy.is_none() => {
+            client.zip(policy).map(|(client, policy)| Request::RestoreAt {
+                client,
+                policy,
+                before,
+            })
+        }
+        _ => None,
+    }
 }

@@ -107,6 +107,12 @@ pub enum Request {
         id: BackupId,
         copy: Option<u8>,
     },
+    /// Restores what a client had under a policy at a moment, in seconds since 1970-01-01T00:00:00Z, or at that of the request.
+    RestoreAt {
+        client: Name,
+        policy: Name,
+        before: Option<u64>,
+    },
 }
 
 /// Why words are no request.
@@ -189,6 +195,15 @@ impl Request {
                 start: *start,
             },
             Request::Restore { id, copy } => ByClass::Restore { id, copy: *copy },
+            Request::RestoreAt {
+                client,
+                policy,
+                before,
+            } => ByClass::RestoreAt {
+                client,
+                policy,
+                before: *before,
+            },
         }
     }
 

@@ -10,7 +10,7 @@ ghost use Rattle.site_types.specs.LineTexts.{fields_text};
 ghost use Rattle.site_types.specs.declared.request.Request.TheVariants.{PolicyAdd};
 
 use crate::forms::{
-    ACTIVE, BACKUP, CALENDAR, CAPACITY, CLIENT, CLIENT_ADD, CLIENT_REMOVE, COPY, FRAGMENT,
+    ACTIVE, BACKUP, BEFORE, CALENDAR, CAPACITY, CLIENT, CLIENT_ADD, CLIENT_REMOVE, COPY, FRAGMENT,
     FREQUENCY, Form, HIGH, ID, KIND, LIFECYCLE, LOAD, LOW, NAME, OFFSET, PATH, POLICY, POLICY_ADD,
     POLICY_CHANGE, POLICY_CLIENT_ADD, POLICY_CLIENT_REMOVE, POLICY_REMOVE, POLICY_SELECT,
     POLICY_UNSELECT, RESTORE, RULE, SCHEDULE, SCHEDULE_ADD, SCHEDULE_CHANGE, SCHEDULE_REMOVE,
@@ -48,7 +48,7 @@ impl Request {
             Request::ZoneSet { .. } => ZONE_SET,
             Request::Load => LOAD,
             Request::Backup { .. } => BACKUP,
-            Request::Restore { .. } => RESTORE,
+            Request::Restore { .. } | Request::RestoreAt { .. } => RESTORE,
         }
     }
 
@@ -148,6 +148,14 @@ impl Request {
             Request::Restore { id, copy } => line
                 .word(ID.name, id.text(alloc)?.bytes())?
                 .number_if(COPY.name, copy.map(u64::from)),
+            Request::RestoreAt {
+                client,
+                policy,
+                before,
+            } => line
+                .name(CLIENT.name, client)?
+                .name(POLICY.name, policy)?
+                .number_if(BEFORE.name, *before),
         }
     }
 }

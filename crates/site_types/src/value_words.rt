@@ -16,11 +16,12 @@ pub fn read_kind(text: &[u8]) -> Option<Kind>
     }
 }
 
-/// The type that a text names: `raw`. Policies of files come later.
+/// The type that a text names: `files` or `raw`.
 pub fn read_policy_type(text: &[u8]) -> Option<PolicyType>
     ensures { result ≡ type_of text.now }
 {
     match text {
+        b"files" => Some(PolicyType::Files),
         b"raw" => Some(PolicyType::Raw),
         _ => None,
     }

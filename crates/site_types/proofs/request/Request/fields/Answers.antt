@@ -16,3 +16,6 @@ returns-in_ok-word_if-in-PolicyChange c = rw c.in-PolicyChange.is (grind (arith,
 
 pub returns-in_ok-name-in-PolicyClientAdd : goal.returns-in_ok-name-in-PolicyClientAdd
 returns-in_ok-name-in-PolicyClientAdd c = elim c.in-PolicyClientAdd.is [ inl add ↦ rw add (grind (arith, appends)) | inr remove ↦ rw remove (grind (arith, appends)) ]
+
+pub returns-in_ok-name-in-RestoreAt-2 : goal.returns-in_ok-name-in-RestoreAt-2
+returns-in_ok-name-in-RestoreAt-2 c = rw c.in-RestoreAt.is (grind (arith, appends))
