@@ -25,7 +25,7 @@ halts f last rest i more (broken left is) read = absurd cc
 abbrev pub fronts : List Item → List ℕ
 fronts items = flat_map spelled_item items
 
-first_read : (f : Format) (last : List ℕ) (x : Item) (xs : List Item) (rest bytes : List ℕ) → rise_behind last (map path_of (x ∷ xs)) ≡ true → AllByRecursion (IsItem f) (x ∷ xs) → bytes ≡ fronts (x ∷ xs) ++ rest → item_at f last bytes ≡ Ok (Some x, fronts xs ++ rest)
+pub first_read : (f : Format) (last : List ℕ) (x : Item) (xs : List Item) (rest bytes : List ℕ) → rise_behind last (map path_of (x ∷ xs)) ≡ true → AllByRecursion (IsItem f) (x ∷ xs) → bytes ≡ fronts (x ∷ xs) ++ rest → item_at f last bytes ≡ Ok (Some x, fronts xs ++ rest)
 first_read f last x xs rest bytes rising each is =
     ap (item_at f last) (is ∙ append_assoc (spelled_item x) (fronts xs) rest) ∙ item_again f last x (fronts xs ++ rest) (and_parts (follows last (path_of x)) (rise_behind (path_of x) (map path_of xs)) rising).0 each.0
 
@@ -108,11 +108,14 @@ has_more f bytes items rest i after has read =
     }
 
 -- an item takes at least its tag
+pub has_tag : (i : Item) → 0 < length (spelled_item i)
+has_tag (Taken e) = omega arith
+has_tag (Kept path) = omega arith
+
 pub falls : (f : Format) (last rest : List ℕ) (i : Item) (after : List ℕ) → IsBytes rest → item_at f last rest ≡ Ok (Some i, after) → length after < length rest
 falls f last rest i after fits read =
     let took = MatchResult-at_ok (TakesItem f last rest) (Breaks f last rest) (Some i, after) read (item_law f last rest fits) in
-    let tagged : 0 < length (spelled_item i) = elim i as (λ j. 0 < length (spelled_item j)) [ Taken e ↦ omega arith | Kept path ↦ omega arith ] in
-    omega (arith, ap (λ (w : List ℕ). length w) took.0.parts, length-append (spelled_item i) after)
+    omega (arith, ap (λ (w : List ℕ). length w) took.0.parts, length-append (spelled_item i) after, has_tag i)
 
 -- ---- a field that breaks its rule
 
@@ -123,7 +126,7 @@ path_left last bytes left (path_ends count more ok parts short none) = omega ari
 path_left last bytes left (wrong_path path more ok parts wrong is) =
     omega (arith, ap (λ (w : List ℕ). length w) parts, length-append (to_be_bytes w16 (length path) ++ path) more, length-append (to_be_bytes w16 (length path)) path, length-append path more)
 
-item_left : (f : Format) (last bytes : List ℕ) (left : ℕ) → Breaks f last bytes left → left ≤ length bytes
+pub item_left : (f : Format) (last bytes : List ℕ) (left : ℕ) → Breaks f last bytes left → left ≤ length bytes
 item_left f last bytes left (no_tag is none) = omega arith
 item_left f last bytes left (wrong_tag tag more parts wrong is) = omega arith
 item_left f last bytes left (behind_end byte more parts is) = omega (arith, ap (λ (w : List ℕ). length w) parts)

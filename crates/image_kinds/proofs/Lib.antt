@@ -3,6 +3,8 @@ pub mod Reading
 pub mod Again
 pub mod Fronts
 pub mod Values
+pub mod Readings
+mod Rows
 pub mod Writing
 pub mod Orders
 pub mod Trees

@@ -31,7 +31,7 @@ pub Takes-behind : (tag : ℕ) (bytes text rest : List ℕ) → Takes bytes text
 Takes-behind tag bytes text rest t = record { parts = ap (λ (w : List ℕ). tag ∷ w) t.parts; rest_fits = t.rest_fits }
 
 -- one reader after another
-bind_law : {A B : Type 0} (r : Result A ℕ) (f : A → Result B ℕ) (P : A → Type 0) (E : ℕ → Type 0) (Q : B → Type 0) (F : ℕ → Type 0) → MatchResult r P E → ((x : A) → P x → MatchResult (f x) Q F) → ((left : ℕ) → E left → F left) → MatchResult (r >>= f) Q F
+pub bind_law : {A B : Type 0} (r : Result A ℕ) (f : A → Result B ℕ) (P : A → Type 0) (E : ℕ → Type 0) (Q : B → Type 0) (F : ℕ → Type 0) → MatchResult r P E → ((x : A) → P x → MatchResult (f x) Q F) → ((left : ℕ) → E left → F left) → MatchResult (r >>= f) Q F
 bind_law (Ok x) f P E Q F p next fails = next x p
 bind_law (Err left) f P E Q F p next fails = fails left p
 

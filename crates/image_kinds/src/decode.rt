@@ -2,6 +2,7 @@ ghost use Rattle.std.specs.Prelude.{◌≡◌, ◌≤◌, ◌-◌, ℕ, List, le
 ghost use Rattle.std.specs.List.{filter_map};
 ghost use Rattle.image_kinds.specs.Streams.{taken_of, AreItems, IsStream, IsImage, spelled, spelled_stream, spelled_image, last_path, path_of, IsBad, Entry, Item, Format};
 ghost use Rattle.image_kinds.specs.Decoding.{IsFault, IsStreamFault, IsReadAs};
+ghost use Rattle.image_kinds.specs.Reading.{AreBytes, stream_in, image_in, IsReading};
 ghost use Rattle.image_kinds.specs.declared.format.Format.TheVariants as format;
 ghost use Rattle.image_kinds.specs.declared.decode.StreamFault.TheVariants as fault;
 
@@ -108,7 +109,7 @@ fn read_image(alloc: Global, bytes: &[u8]) -> Result<ImageBody, StreamFault>
 }
 
 /// The stream that these bytes spell.
-#[tactic(auto, using(crate::proofs::Values::only_stream))]
+#[tactic(auto, using(crate::proofs::Values::only_stream, crate::proofs::Readings::stream_reading))]
 pub fn decode_stream(alloc: Global, bytes: &[u8]) -> Result<Stream, StreamFault>
     // What is read is spelled so, each byte of it.
     ensures found { IfOk result (λ s. IsStream s × (bytes.now ≡ spelled_stream s)) }
@@ -118,12 +119,15 @@ pub fn decode_stream(alloc: Global, bytes: &[u8]) -> Result<Stream, StreamFault>
 
     // The offset of a fault is that of the first field that breaks its rule.
     ensures fault { IfErr result (IsStreamFault format.Stream bytes.now) }
+
+    // The same as a function of the bytes.
+    ensures reads { IsReading result (stream_in bytes.now) }
 {
     read_stream(alloc, bytes)
 }
 
 /// The image that these bytes spell.
-#[tactic(auto, using(crate::proofs::Values::only_image))]
+#[tactic(auto, using(crate::proofs::Values::only_image, crate::proofs::Readings::image_reading))]
 pub fn decode_image(alloc: Global, bytes: &[u8]) -> Result<ImageBody, StreamFault>
     // What is read is spelled so, each byte of it.
     ensures found { IfOk result (λ i. IsImage i × (bytes.now ≡ spelled_image i)) }
@@ -133,6 +137,9 @@ pub fn decode_image(alloc: Global, bytes: &[u8]) -> Result<ImageBody, StreamFaul
 
     // The offset of a fault is that of the first field that breaks its rule.
     ensures fault { IfErr result (IsStreamFault format.Image bytes.now) }
+
+    // The same as a function of the bytes.
+    ensures reads { IsReading result (image_in bytes.now) }
 {
     read_image(alloc, bytes)
 }
@@ -143,4 +150,14 @@ pub fn one_reading()
     ensures image { (i j : List Item) → IsImage i → IsImage j → spelled_image i ≡ spelled_image j → i ≡ j }
     ensures offset { (f : Format) (bytes : List ℕ) (m n : ℕ) → IsBad f bytes m → IsBad f bytes n → m ≡ n }
     ensures apart { (f : Format) (items : List Item) (n : ℕ) → AreItems f items → IsBad f (spelled f items) n → ⊥ }
+{}
+
+/// The functions that say what bytes spell, `stream_in` and `image_in`, say it as the spelling does.
+pub fn reading_is_the_grammar()
+    ensures stream_read { (bytes : List ℕ) (s : List Entry) → AreBytes bytes → stream_in bytes ≡ Ok s → IsStream s × (bytes ≡ spelled_stream s) }
+    ensures stream_bad { (bytes : List ℕ) (n : ℕ) → AreBytes bytes → stream_in bytes ≡ Err n → IsBad format.Stream bytes n }
+    ensures stream_again { (s : List Entry) → IsStream s → stream_in (spelled_stream s) ≡ Ok s }
+    ensures image_read { (bytes : List ℕ) (i : List Item) → AreBytes bytes → image_in bytes ≡ Ok i → IsImage i × (bytes ≡ spelled_image i) }
+    ensures image_bad { (bytes : List ℕ) (n : ℕ) → AreBytes bytes → image_in bytes ≡ Err n → IsBad format.Image bytes n }
+    ensures image_again { (i : List Item) → IsImage i → image_in (spelled_image i) ≡ Ok i }
 {}

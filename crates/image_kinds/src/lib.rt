@@ -11,7 +11,7 @@ mod merge;
 mod path;
 mod stream;
 
-pub use decode::{StreamFault, decode_image, decode_stream, one_reading};
+pub use decode::{StreamFault, decode_image, decode_stream, one_reading, reading_is_the_grammar};
 pub use encode::{encode_image, encode_stream};
 pub use entry::{Entry, Item};
 pub use make::make_image;
