@@ -48,6 +48,7 @@ book_change (request.ZoneSet rule offset) = None
 book_change request.Load = None
 book_change (request.Backup client policy schedule start) = None
 book_change (request.Restore id copy) = None
+book_change (request.RestoreAt client policy before) = None
 
 -- a request that changes the book
 abbrev pub is_of_book : Request → Bool

@@ -160,7 +160,8 @@ impl Book {
             Request::ZoneSet { .. }
             | Request::Load
             | Request::Backup { .. }
-            | Request::Restore { .. } => unreachable!(),
+            | Request::Restore { .. }
+            | Request::RestoreAt { .. } => unreachable!(),
         }
     }
 }
