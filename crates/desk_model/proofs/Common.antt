@@ -11,7 +11,7 @@ pub use Rattle.std.proofs.lemmas.Slice.Eq.{bytes_eq-Decides}
 pub use Rattle.policy_book.specs.Lists.{AreByName, changed, has, itself, named, put, without}
 pub use Rattle.policy_book.specs.Book.{Book, Policy, adhoc, client_limit, client_name, disk0, listed_limit, manual, policy_limit, policy_name, schedule_limit, schedule_name, selection_limit, unit_limit, unit_name}
 pub use Rattle.policy_book.specs.Changes.{breaks_rule_8, client_added, client_removed, clients_of, has_lifecycle, is_full, last_of, lister, policy_added, policy_removed, policy_with, schedules_of, selections_of, unit_added, unit_changed, unit_of, unit_with, with_listed, with_path, with_policy, with_schedule, without_listed, without_path, without_schedule}
-pub use Rattle.desk_model.specs.Backups.{Asked, asked_of, backup_case, backup_image, backup_refusals, image_limit, is_known, last_time, later_job, latest_version, operations_in, operations_of, policy_asked, schedule_asked, sealed, sealed_entry, states_of, takes_all, unit_at}
+pub use Rattle.desk_model.specs.Backups.{Asked, asked_of, backup_case, backup_image, backup_refusals, base_of, image_asked, image_limit, is_known, last_time, later_job, latest_version, operations_in, operations_of, policy_asked, schedule_asked, sealed, sealed_entry, states_of, takes_all, unit_at}
 pub use Rattle.std.specs.List.{All, AllByRecursion, AllPairs, list_any, slice_split}
 pub use Rattle.std.specs.Option.{option_and_then, option_map_or}
 pub use Rattle.site_types.specs.declared.request.Request.{Request}
@@ -20,7 +20,8 @@ pub use Rattle.slp_tree.proofs.ListLemmas.{named-put, named_at, put_at, rising_p
 pub use Rattle.site_types.specs.declared.answer.Answer.{Answer}
 pub use Rattle.desk_model.specs.Pieces.{blocks, pieces, with_piece, with_pieces}
 pub use Rattle.site_types.specs.Limits.{last_moment, payload_limit}
-pub use Rattle.desk_model.specs.Step.{case_of, has_copy, restore_case, step, wanted_number}
+pub use Rattle.desk_model.specs.Restores.{has_copy, restore_case, wanted_number}
+pub use Rattle.desk_model.specs.Step.{case_of, step}
 pub use Rattle.site_types.specs.declared.unit.Unit.{Unit as StorageUnit}
 pub use Rattle.site_types.specs.Forms.{are_marks, capacity_key, form_named, fragment_key, high_key, low_key, name_key, segment_key, slots_key, unit_add_of, unit_change_of}
 pub use Rattle.desk_model.specs.Settings.{all_set, file_case, file_requests, is_setting, load_of, set_by, setting_refusals, state_of, zone_set}

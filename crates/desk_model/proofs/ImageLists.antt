@@ -101,6 +101,14 @@ has_one id (x ∷ images) there = at (same_id x.entry.id id) refl (has_one id im
         let found = later rest in
         (found.0, (suc found.1.0, let lt = found.1.1 in omega (arith, lt), found.1.2), found.2)
 
+-- an image whose record is one of theirs
+pub of_entries : (images : List Image) (e : ImageRecord) → Contains (entries images) e → (i : Image) × Contains images i × (i.entry ≡ e)
+of_entries [] e (k, lt, is) = absurd (omega arith)
+of_entries (x ∷ images) e (zero, lt, is) = (x, (zero, omega arith, refl), is)
+of_entries (x ∷ images) e (suc k, lt, is) =
+    let found = of_entries images e (k, omega arith, is) in
+    (found.0, (suc found.1.0, let inside = found.1.1 in omega (arith, inside), found.1.2), found.2)
+
 -- They stay by id.
 
 abbrev Before : ImageRecord → ImageRecord → Type 0

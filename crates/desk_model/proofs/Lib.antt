@@ -1,4 +1,5 @@
 pub mod Common
+mod FileRows
 mod Rows
 pub mod ClassLemmas
 pub mod NamedLemmas

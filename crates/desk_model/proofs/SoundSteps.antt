@@ -1,9 +1,8 @@
 -- Each step keeps a state sound.
-use Rattle.desk_model.proofs.Common.{rules, ◌≡◌, ◌≤◌, ◌<◌, ◌∙◌, ℕ, zero, suc, Bool, true, false, List, [], ◌∷◌, length, refl, sym, ap, subst, arith, Option, Some, None, Result, Ok, Err, is_some, unwrap_or, not, ◌&&◌, nat_le, nat_lt, fold, Contains, option_map_or, is_utf8, false≢true, nat_tests, last_moment, Answer, BackupId, Request, has, Policy, Book, policy_name, client_limit, adhoc, manual, last_of, State, initial, Image, Job, has_image, Case, first_refusal, unless_refused, step_of, Asked, asked_of, image_limit, takes_all, is_known, last_time, later_job, latest_version, policy_asked, schedule_asked, backup_refusals, backup_image, backup_case, setting_refusals, set_by, zone_set, all_set, state_of, file_requests, file_case, case_of, step, Sound, has_version}
+use Rattle.desk_model.proofs.Common.{rules, ◌≡◌, ◌≤◌, ◌<◌, ◌∙◌, ℕ, zero, suc, Bool, true, false, List, [], ◌∷◌, length, refl, sym, ap, subst, arith, Option, Some, None, Result, Ok, Err, is_some, unwrap_or, not, ◌&&◌, nat_le, nat_lt, fold, Contains, option_map_or, is_utf8, false≢true, nat_tests, last_moment, Answer, BackupId, Request, has, Policy, Book, policy_name, client_limit, adhoc, manual, last_of, State, initial, entries, Image, Job, has_image, Case, first_refusal, unless_refused, step_of, Asked, asked_of, image_limit, takes_all, is_known, last_time, later_job, latest_version, policy_asked, schedule_asked, backup_refusals, backup_case, base_of, image_asked, setting_refusals, set_by, zone_set, all_set, state_of, file_requests, file_case, case_of, step, Sound, IsBase, has_version}
 use Rattle.std.specs.Result.{result_ok}
-use Rattle.site_types.specs.Classes.{RequestClass, site_change, site_file, backup, restore, class_of}
+use Rattle.site_types.specs.Classes.{RequestClass, site_change, site_file, backup, restore, restore_at, class_of}
 use Rattle.site_types.specs.Requests.{read_words}
-use Rattle.site_types.specs.declared.image.Base.TheVariants as base
 use Rattle.site_types.specs.declared.request.Request.TheVariants as request
 use Rattle.site_types.specs.declared.schedule.Schedule.{Schedule}
 use Rattle.site_types.proofs.OptionLemmas.{guarded, chained, mapped}
@@ -11,9 +10,12 @@ use Rattle.schedule_windows.specs.Zones.{ZoneOf}
 use Rattle.policy_book.specs.Kinds.{takes_files}
 use Rattle.policy_book.specs.Requests.{schedule_of}
 use Rattle.policy_book.specs.SiteFile.{Line, change_in, change_read, changes_site, requests_of, site_requests}
+use Rattle.site_types.specs.declared.image.ImageRecord.{ImageRecord}
+use Rattle.restore_engine.proofs.ReferenceLemmas.{referenced}
+use Rattle.desk_model.specs.Backups.{reference_of}
 use Rattle.desk_model.proofs.NamedLemmas.{found_named}
 use Rattle.desk_model.proofs.Passing.{all_passed, there_is}
-use Rattle.desk_model.proofs.ImageLists.{has_one}
+use Rattle.desk_model.proofs.ImageLists.{has_one, of_entries}
 use Rattle.desk_model.proofs.RuleLemmas.{latest_there}
 use Rattle.desk_model.proofs.Staying.{resited, lists_changed}
 use Rattle.desk_model.proofs.Asking.{Asks, words_ask}
@@ -132,10 +134,26 @@ module _ (s : State) (sound : Sound s) (asked : Asked) (payload : List ℕ) (mom
   schedule = unwrap_or (schedule_asked asked s) manual
 
   abbrev image : Image
-  image = backup_image asked.client policy schedule payload moment s
+  image = image_asked asked payload moment s
 
   last_is : last_time asked.client s ≡ last_of asked.client book
   last_is = ap (λ (jobs : List (ℕ × Job)). fold (later_job asked.client) (last_of asked.client book) jobs) sound.no_jobs
+
+  -- its base is an image of the client, whose last id time is at or above its time
+  base_below : IsBase image.entry.base image.entry.id.time
+  base_below = at (reference_of asked.client policy schedule s) refl
+    where
+      at : (o : Option ℕ) → reference_of asked.client policy schedule s ≡ o → IsBase (base_of o) image.entry.id.time
+      at None is = tt
+      at (Some time) is =
+          let found = referenced policy.name asked.client schedule.kind (entries s.images) time is in
+          let one = of_entries s.images found.0 found.1 in
+          let kept = sound.images one.0 one.1 in
+          let first : 1 ≤ time = subst (λ (k : ℕ). 1 ≤ k) (ap (λ (e : ImageRecord). e.id.time) one.2 ∙ found.3) kept.time.0 in
+          let low : time ≤ last_of asked.client book =
+          subst (λ (k : ℕ). k ≤ last_of asked.client book) (ap (λ (e : ImageRecord). e.id.time) one.2 ∙ found.3)
+          (subst (λ (name : List ℕ). one.0.entry.id.time ≤ last_of name book) (ap (λ (e : ImageRecord). e.id.client) one.2 ∙ found.2) kept.last) in
+          (first, omega (arith, low, last_is))
 
   new_one : has_image image.entry.id s.images ≡ false
   new_one = at (has_image image.entry.id s.images) refl
@@ -164,12 +182,12 @@ module _ (s : State) (sound : Sound s) (asked : Asked) (payload : List ℕ) (mom
             let room = client_room (takes_all asked.policy) (is_known asked.client book) (length book.clients) passed.1.1.0 passed.1.1.1.0 unknown in
             (subst (λ (p : Policy). takes_all p.name ≡ true) (sym policy_is) (ap takes_all found.0 ∙ room.0), room.1);
         time = (omega arith, grind (arith, nat_tests, late));
-        base = tt;
+        base = base_below;
         completed = early;
       }
 
   pub backup_sound : moment ≤ last_moment → first_refusal (backup_refusals asked moment s) ≡ None → Sound (backup_case asked payload moment s).after
-  backup_sound early none = seal_sound s sound image.entry.id policy.name schedule.name schedule.kind base.None policy.lifecycle (latest_version policy.lifecycle book) moment payload (backup_fits early none)
+  backup_sound early none = seal_sound s sound image.entry.id policy.name schedule.name schedule.kind image.entry.base policy.lifecycle (latest_version policy.lifecycle book) moment image.bytes (backup_fits early none)
 
 -- Steps.
 
@@ -202,8 +220,9 @@ class_sound site_file s payload moment asks sound early = case_sound s (file_cas
     at (Ok t) is = all_set_sound (unwrap_or (file_requests payload) []) s (file_asks payload) sound t is
     at (Err a) is = sound
 class_sound (backup client policy schedule start) s payload moment asks sound early =
-    case_sound s (case_of s (backup client policy schedule start) payload moment) sound (backup_sound s sound (asked_of client policy schedule start (length payload)) payload moment early)
+    case_sound s (case_of s (backup client policy schedule start) payload moment) sound (backup_sound s sound (asked_of client policy schedule start) payload moment early)
 class_sound (restore id copy) s payload moment asks sound early = case_sound s (case_of s (restore id copy) payload moment) sound (λ none. sound)
+class_sound (restore_at client policy before) s payload moment asks sound early = case_sound s (case_of s (restore_at client policy before) payload moment) sound (λ none. sound)
 
 pub sound_step : (s : State) (request : Request) (payload : List ℕ) (moment : ℕ) → Sound s → Asks request → moment ≤ last_moment → Sound (step s request payload moment).1
 sound_step s request payload moment sound asks early = class_sound (class_of request) s payload moment (asked_in request asks) sound early

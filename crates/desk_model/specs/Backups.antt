@@ -1,7 +1,8 @@
 -- bpbackup: what it is made under, its refusals, and the state with its image.
-use Rattle.std.specs.Prelude.{ℕ, ◌+◌, ◌*◌, Bool, true, false, ◌&&◌, not, is_none, nat_le, nat_lt, if◌then◌else◌, List, [], ◌∷◌, ◌++◌, length, map, codes, Option, Some, None, unwrap_or, find, fold, max}
+use Rattle.std.specs.Prelude.{ℕ, ◌+◌, ◌*◌, Bool, true, false, ◌&&◌, not, is_none, nat_le, nat_lt, is_some, if◌then◌else◌, List, [], ◌∷◌, ◌++◌, length, map, codes, Option, Some, None, Result, Ok, Err, unwrap_or, find, fold, max}
 use Rattle.std.specs.List.{list_any}
 use Rattle.std.specs.Option.{option_map_or}
+use Rattle.std.specs.Result.{result_err}
 use Rattle.std.specs.Str.{bytes_eq}
 use Rattle.site_types.specs.Ids.{id_text}
 use Rattle.site_types.specs.Limits.{last_moment}
@@ -20,7 +21,7 @@ use Rattle.site_types.specs.declared.image.Base.TheVariants as base
 use Rattle.site_types.specs.declared.image.Expiry.TheVariants.{Rule}
 use Rattle.site_types.specs.declared.window.Windows.{Windows}
 use Rattle.site_types.specs.declared.answer.Answer.{Answer}
-use Rattle.site_types.specs.declared.answer.Answer.TheVariants.{Done, Unknown, Inactive, WindowClosed, AboveHigh, UnitFull, TooMany}
+use Rattle.site_types.specs.declared.answer.Answer.TheVariants.{Done, Unknown, Inactive, WindowClosed, AboveHigh, UnitFull, TooMany, BadStream}
 use Rattle.schedule_windows.specs.Weeks.{is_open, spans}
 use Rattle.schedule_windows.specs.Zones.{ZoneOf, civil_at}
 use Rattle.slp_tree.specs.Trees.{Version}
@@ -28,7 +29,12 @@ use Rattle.slp_tree.specs.Lifecycles.{latest_named, version_named}
 use Rattle.policy_book.specs.Lists.{named, has, itself}
 use Rattle.policy_book.specs.Book.{Policy, Book, unit_name, client_name, policy_name, schedule_name, client_limit, disk0, adhoc, manual}
 use Rattle.policy_book.specs.Changes.{pair_text, is_full, last_of, client_sealed}
+use Rattle.image_kinds.specs.declared.entry.Entry.{Entry}
+use Rattle.image_kinds.specs.Streams.{spelled_image}
+use Rattle.image_kinds.specs.Images.{made}
+use Rattle.image_kinds.specs.Reading.{stream_in}
 use Rattle.image_catalogue.specs.Images.{used}
+use Rattle.restore_engine.specs.Chains.{reference}
 use Rattle.desk_model.specs.Pieces.{pieces}
 use Rattle.desk_model.specs.State.{State, Image, Job, backup, duplication, restore, entries, with_image, with_stored}
 use Rattle.desk_model.specs.Refusals.{Case}
@@ -117,12 +123,32 @@ sealed image unit s = record s {
   stored = with_stored unit (pieces (unit_at unit s.site.book).segment image.bytes) s.stored;
 }
 
+-- the time of the image that a backup builds on, where it builds on one
+abbrev pub reference_of : List ℕ → Policy → Schedule → State → Option ℕ
+reference_of client policy schedule s = reference policy.name client schedule.kind (entries s.images)
+
+abbrev pub base_of : Option ℕ → Base
+base_of None = base.None
+base_of (Some time) = base.Time time
+
+-- how the image of a stream is spelled; a payload that is no stream has none
+abbrev pub made_bytes : List (List ℕ) → Option ℕ → Result (List Entry) ℕ → List ℕ
+made_bytes selections reference (Ok stream) = spelled_image (made selections reference stream)
+made_bytes selections reference (Err offset) = []
+
+-- the bytes that are sealed: under a policy of files the image that is made of the payload's stream, and else the payload
+abbrev pub sealed_bytes : Policy → Option ℕ → List ℕ → List ℕ
+sealed_bytes policy reference payload = if policy.files then made_bytes policy.selections reference (stream_in payload) else payload
+
 -- the image that a backup makes at this moment
 abbrev pub backup_image : List ℕ → Policy → Schedule → List ℕ → ℕ → State → Image
-backup_image client policy schedule payload moment s = record {
-  entry = sealed_entry s.site.book (record { client = client; time = new_time client moment s }) policy.name schedule.name schedule.kind base.None policy.lifecycle (latest_version policy.lifecycle s.site.book) moment (length payload);
-  bytes = payload;
-}
+backup_image client policy schedule payload moment s =
+    let reference = reference_of client policy schedule s in
+    let bytes = sealed_bytes policy reference payload in
+    record {
+      entry = sealed_entry s.site.book (record { client = client; time = new_time client moment s }) policy.name schedule.name schedule.kind (base_of reference) policy.lifecycle (latest_version policy.lifecycle s.site.book) moment (length bytes);
+      bytes = bytes;
+    }
 
 -- The refusals.
 
@@ -142,13 +168,12 @@ takes_all policy = bytes_eq policy (codes "adhoc")
 abbrev pub is_known : List ℕ → Book → Bool
 is_known client book = has client_name client book.clients
 
--- who is backed up, under which policy and schedule and at whose wish, and how many bytes
+-- who is backed up, under which policy and schedule, and at whose wish
 pub record Asked : Type 0 where
   pub client : List ℕ
   pub policy : List ℕ
   pub schedule : Option (List ℕ)
   pub start : Start
-  pub size : ℕ
 
 -- the refusals that come before a schedule is found, in their order
 abbrev pub client_refusals : Asked → Option Policy → State → List (Bool × Answer)
@@ -168,7 +193,17 @@ room_refusals asked policy schedule unit held moment s =
     ∷ (is_waiting asked.start s.site.zone moment (unwrap_or schedule manual).windows, WindowClosed (unwrap_or schedule manual).name)
     ∷ (nat_le (unit.high * unit.capacity) (held * 100), AboveHigh unit.name held unit.capacity)
     ∷ (nat_lt last_moment (new_time asked.client moment s), TooMany (codes "time") (last_time asked.client s) last_moment)
-    ∷ (nat_lt unit.capacity (held + asked.size), UnitFull unit.name held asked.size unit.capacity)
+    ∷ []
+
+-- where the payload of a policy of files is no stream
+abbrev pub stream_break : Policy → List ℕ → Option ℕ
+stream_break policy payload = if policy.files then result_err (stream_in payload) else None
+
+-- and those that the payload's bytes show: they are no stream, or there is no room on the unit for what is sealed
+abbrev pub content_refusals : Option ℕ → StorageUnit → ℕ → ℕ → List (Bool × Answer)
+content_refusals offset unit held size =
+    (is_some offset, BadStream (unwrap_or offset 0))
+    ∷ (nat_lt unit.capacity (held + size), UnitFull unit.name held size unit.capacity)
     ∷ []
 
 abbrev pub policy_asked : Asked → State → Option Policy
@@ -180,21 +215,30 @@ schedule_asked asked s = schedule_chosen asked.schedule (unwrap_or (policy_asked
 abbrev pub unit_asked : Asked → State → StorageUnit
 unit_asked asked s = unit_at (backup_unit (unwrap_or (policy_asked asked s) adhoc) s.site.book) s.site.book
 
--- all of them, in their order
+-- how many bytes are kept there
+abbrev pub held_asked : Asked → State → ℕ
+held_asked asked s = used (unit_asked asked s).name (entries s.images)
+
+-- all of them that come before the payload is read, in their order
 abbrev pub backup_refusals : Asked → ℕ → State → List (Bool × Answer)
 backup_refusals asked moment s =
     client_refusals asked (policy_asked asked s) s
-    ++ room_refusals asked (unwrap_or (policy_asked asked s) adhoc) (schedule_asked asked s) (unit_asked asked s) (used (unit_asked asked s).name (entries s.images)) moment s
+    ++ room_refusals asked (unwrap_or (policy_asked asked s) adhoc) (schedule_asked asked s) (unit_asked asked s) (held_asked asked s) moment s
+
+abbrev pub image_asked : Asked → List ℕ → ℕ → State → Image
+image_asked asked payload moment s = backup_image asked.client (unwrap_or (policy_asked asked s) adhoc) (unwrap_or (schedule_asked asked s) manual) payload moment s
+
+abbrev pub backup_shown : Asked → List ℕ → ℕ → State → List (Bool × Answer)
+backup_shown asked payload moment s = content_refusals (stream_break (unwrap_or (policy_asked asked s) adhoc) payload) (unit_asked asked s) (held_asked asked s) (length (image_asked asked payload moment s).bytes)
 
 abbrev pub backup_done : Asked → List ℕ → ℕ → State → Answer × State
 backup_done asked payload moment s =
-    let policy = unwrap_or (policy_asked asked s) adhoc in
-    let image = backup_image asked.client policy (unwrap_or (schedule_asked asked s) manual) payload moment s in
-    (Done (id_text image.entry.id ++ codes "\n"), sealed image (backup_unit policy s.site.book) s)
+    let image = image_asked asked payload moment s in
+    (Done (id_text image.entry.id ++ codes "\n"), sealed image (backup_unit (unwrap_or (policy_asked asked s) adhoc) s.site.book) s)
 
 -- the policy is adhoc and the start manual where none is named
-abbrev pub asked_of : List ℕ → Option (List ℕ) → Option (List ℕ) → Option Start → ℕ → Asked
-asked_of client policy schedule start size = record { client = client; policy = unwrap_or policy (codes "adhoc"); schedule = schedule; start = unwrap_or start Manual; size = size }
+abbrev pub asked_of : List ℕ → Option (List ℕ) → Option (List ℕ) → Option Start → Asked
+asked_of client policy schedule start = record { client = client; policy = unwrap_or policy (codes "adhoc"); schedule = schedule; start = unwrap_or start Manual }
 
 abbrev pub backup_case : Asked → List ℕ → ℕ → State → Case
-backup_case asked payload moment s = record { refusals = backup_refusals asked moment s; shown = []; answer = (backup_done asked payload moment s).0; after = (backup_done asked payload moment s).1 }
+backup_case asked payload moment s = record { refusals = backup_refusals asked moment s; shown = backup_shown asked payload moment s; answer = (backup_done asked payload moment s).0; after = (backup_done asked payload moment s).1 }

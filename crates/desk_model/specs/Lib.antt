@@ -3,6 +3,7 @@ pub mod Pieces
 pub mod State
 pub mod Refusals
 pub mod Backups
+pub mod Restores
 pub mod Settings
 pub mod Step
 pub mod Replay

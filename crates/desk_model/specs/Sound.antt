@@ -30,7 +30,8 @@ use Rattle.image_catalogue.specs.Images.{AreById}
 use Rattle.desk_model.specs.Pieces.{pieces}
 use Rattle.desk_model.specs.State.{State, Image, Stored, entries}
 use Rattle.desk_model.specs.Backups.{image_limit, is_known, operations_in, unit_at}
-use Rattle.desk_model.specs.Step.{has_copy, step}
+use Rattle.desk_model.specs.Restores.{has_copy}
+use Rattle.desk_model.specs.Step.{step}
 
 -- The site.
 
