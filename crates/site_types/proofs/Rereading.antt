@@ -1,5 +1,5 @@
 -- What the values of each form make is written as that form with these values. So a request that was read is read again from its line.
-use Rattle.site_types.proofs.Common.{◌≡◌, ℕ, List, [], ◌∷◌, Bool, true, false, nat_lt, Option, Some, None, option_map, unwrap_or, if◌then◌else◌, Result, Ok, Err, codes, refl, sym, ap, ◌∙◌, IfOk, option_and_then, decimal, calendar_text, calendar_of, Scheduling, are_marks, is_one, pair_of, policy_add_of, schedule_keys, schedule_made, schedule_of, schedule_texts, spelled, unit_add_of, unit_change_of, id_of, id_text, Given, name_of, IsFormed, number_between, path_of, written, windows_text, windows_of, rule_of, offset_of, offset_text, Request}
+use Rattle.site_types.proofs.Common.{◌≡◌, ℕ, List, [], ◌∷◌, Bool, true, false, nat_lt, Option, Some, None, option_map, unwrap_or, if◌then◌else◌, Result, Ok, Err, codes, refl, sym, ap, ◌∙◌, IfOk, option_and_then, decimal, calendar_text, calendar_of, Scheduling, are_marks, is_one, pair_of, policy_add_of, schedule_keys, schedule_made, schedule_of, schedule_texts, spelled, unit_add_of, unit_change_of, id_of, id_text, Given, name_of, IsFormed, path_of, written, windows_text, windows_of, rule_of, offset_of, offset_text, Request}
 use Rattle.site_types.specs.Forms.{restore_of}
 use Rattle.site_types.specs.Requests.{IsReading, read_words}
 use Rattle.site_types.specs.declared.id.BackupId.{BackupId}

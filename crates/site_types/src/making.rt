@@ -8,8 +8,8 @@ ghost use Rattle.site_types.specs.declared.forms.FormName.TheVariants as form;
 ghost use Rattle.site_types.specs.declared.request.Request.TheVariants as request;
 
 use crate::forms::{
-    ACTIVE, BEFORE, CALENDAR, CAPACITY, CLIENT, COPY, FRAGMENT, FREQUENCY, FormName, HIGH, ID, KIND,
-    LIFECYCLE, LOW, NAME, OFFSET, PATH, POLICY, RULE, SCHEDULE, SEGMENT, SLOTS, START, TYPE,
+    ACTIVE, BEFORE, CALENDAR, CAPACITY, CLIENT, COPY, FRAGMENT, FREQUENCY, FormName, HIGH, ID,
+    KIND, LIFECYCLE, LOW, NAME, OFFSET, PATH, POLICY, RULE, SCHEDULE, SEGMENT, SLOTS, START, TYPE,
     WINDOWS,
 };
 use crate::keys::FormKey;
