@@ -8,12 +8,12 @@ pub use Rattle.policy_book.specs.Book.{adhoc, Policy, manual}
 pub use Rattle.desk_model.specs.Refusals.{first_refusal}
 pub use Rattle.site_types.specs.declared.schedule.Schedule.{Schedule}
 pub use Rattle.policy_book.specs.Requests.{refusals_of, is_of_book}
-pub use Rattle.desk_model.specs.Backups.{Asked, asked_of, backup_refusals, client_refusals, policy_asked, latest_version, new_time, schedule_asked}
+pub use Rattle.desk_model.specs.Backups.{Asked, asked_of, backup_refusals, base_of, client_refusals, reference_of, policy_asked, latest_version, new_time, schedule_asked}
 pub use Rattle.std.specs.declared.alloc.AllocError.{AllocError}
-pub use Rattle.site_types.specs.Classes.{RequestClass, site_change, site_file, backup, restore, class_of, class_seen}
+pub use Rattle.site_types.specs.Classes.{RequestClass, site_change, site_file, backup, restore, restore_at, class_of, class_seen}
 pub use Rattle.desk_model.specs.State.{State, Image, entries, image_named}
 pub use Rattle.std.proofs.lemmas.List.Elements.{filter-append}
 pub use Rattle.desk_rules.specs.DueBackups.{AllInTime, Calendar, Frequency, Mode, due_of_client, due_of_policy, fore, foremost, is_due_for, is_of, last_in, last_time, latest, line_of, may_be_due, mode_before}
-pub use Rattle.desk_rules.specs.Seen.{backup_answer, blank, room_under, seen}
+pub use Rattle.desk_rules.specs.Seen.{backup_answer, blank, length_of, lengths, room_under, seen}
 pub use Rattle.desk_rules.specs.Refusing.{Answered, NoMemory, Passes, Refusal, refusal_by, settled}
 pub use Rattle.desk_rules.specs.Asking.{asked_by}

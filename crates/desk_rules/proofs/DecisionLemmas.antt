@@ -1,9 +1,10 @@
 -- What is decided of what is seen is decided of every state that has that site and those images.
-use Rattle.desk_rules.proofs.Common.{◌≡◌, ◌∙◌, ℕ, suc, Bool, true, false, cond, List, [], ◌∷◌, ◌++◌, length, map, Option, Some, None, Result, Ok, Err, sym, ap, refl, subst, arith, unwrap_or, option_map, find, Contains, IfOk, length-map, length-replicate, option_map_or, AllocError, RequestClass, site_change, site_file, backup, restore, class_of, Answer, Done, ImageRecord, Request, adhoc, refusals_of, State, Image, entries, image_named, first_refusal, Asked, asked_of, backup_refusals, client_refusals, policy_asked, Removal, gone_client, gone_policy, is_of_client, is_under, removal_of, setting_refusals, use_refusals, used_by, uses_of, Change, Load, Nothing, SealNow, Decision, Decides, DecidesAs, IsChange, IsDecision, IsStateOf, SetsSite, backup_body, Site, settled, backup_answer, blank, room_under, seen}
+use Rattle.desk_rules.proofs.Common.{◌≡◌, ◌∙◌, ℕ, suc, Bool, true, false, cond, List, [], ◌∷◌, ◌++◌, length, map, Option, Some, None, Result, Ok, Err, sym, ap, refl, subst, arith, unwrap_or, option_map, find, Contains, IfOk, length-map, length-replicate, option_map_or, AllocError, RequestClass, site_change, site_file, backup, restore, restore_at, class_of, base_of, latest_version, manual, new_time, schedule_asked, Backup, JobBody, length_of, lengths, ◌+◌, ◌<◌, get_or, take, take_more, Answer, Done, ImageRecord, Request, adhoc, refusals_of, State, Image, entries, image_named, first_refusal, Asked, asked_of, backup_refusals, client_refusals, policy_asked, Removal, gone_client, gone_policy, is_of_client, is_under, removal_of, setting_refusals, use_refusals, used_by, uses_of, Change, Load, Nothing, SealNow, Decision, Decides, DecidesAs, IsChange, IsDecision, IsStateOf, SetsSite, backup_body, Site, settled, backup_answer, blank, room_under, seen}
 use Rattle.site_types.specs.declared.id.BackupId.{BackupId}
 use Rattle.site_types.specs.declared.schedule.Start.{Start}
 use Rattle.image_catalogue.specs.Images.{first_of_client, first_under, record_named, same_id}
-use Rattle.desk_model.specs.Step.{restore_refusals}
+use Rattle.restore_engine.specs.Chains.{chain_at, reference}
+use Rattle.desk_model.specs.Restores.{bytes_of, bytes_with, chain_asked, ids_of, restore_at_case, restore_at_refusals, restore_refusals, total}
 use Rattle.desk_rules.proofs.RefusalLemmas.{answered}
 use Rattle.desk_rules.proofs.SeenLemmas.{entries_seen}
 
@@ -21,8 +22,8 @@ length_seen images = sym (length-map (entries images) blank ∙ length-map image
 
 -- Backups.
 
-abbrev backup_settled : Asked → ℕ → State → Decision
-backup_settled asked moment s = settled (first_refusal (backup_refusals asked moment s)) (backup_answer asked moment s) (SealNow (backup_body asked moment s))
+abbrev backup_settled : Asked → ℕ → ℕ → State → Decision
+backup_settled asked size moment s = settled (first_refusal (backup_refusals asked moment s)) (backup_answer asked moment s) (SealNow (backup_body asked size moment s))
 
 refusals_seen : (asked : Asked) (moment : ℕ) (site : Site) (images : List Image) (records : List ImageRecord) → entries images ≡ records → backup_refusals asked moment (with_images site images) ≡ backup_refusals asked moment (seen site records)
 refusals_seen asked moment site images records are =
@@ -32,22 +33,29 @@ refusals_seen asked moment site images records are =
     let clients : client_refusals asked policy (with_images site images) ≡ client_refusals asked policy s = rw number refl in
     λ j. clients j ++ room_under (unwrap_or policy adhoc) asked ((are ∙ sym (entries_seen records)) j) moment s
 
-settled_seen : (asked : Asked) (moment : ℕ) (site : Site) (records : List ImageRecord) (s : State) → IsStateOf site records s → backup_settled asked moment (seen site records) ≡ backup_settled asked moment s
-settled_seen asked moment site records s is =
-    sym ((λ j. backup_settled asked moment (record s { site = is.site_is j; jobs = is.idle j }))
-    ∙ ap (λ (rs : List (Bool × Answer)). settled (first_refusal rs) (backup_answer asked moment (seen site records)) (SealNow (backup_body asked moment (seen site records)))) (refusals_seen asked moment site s.images records is.images_are))
+-- the body of a backup, whose base is one of these images
+abbrev body_over : Asked → ℕ → ℕ → State → List ImageRecord → JobBody
+body_over asked size moment s records =
+    let policy = unwrap_or (policy_asked asked s) adhoc in
+    let schedule = unwrap_or (schedule_asked asked s) manual in
+    Backup (record { client = asked.client; time = new_time asked.client moment s }) policy.name schedule.name schedule.kind (base_of (reference policy.name asked.client schedule.kind records)) policy.lifecycle (latest_version policy.lifecycle s.site.book) size
+
+settled_seen : (asked : Asked) (size moment : ℕ) (site : Site) (records : List ImageRecord) (s : State) → IsStateOf site records s → backup_settled asked size moment (seen site records) ≡ backup_settled asked size moment s
+settled_seen asked size moment site records s is =
+    sym ((λ j. backup_settled asked size moment (record s { site = is.site_is j; jobs = is.idle j }))
+    ∙ (λ j. settled (first_refusal (refusals_seen asked moment site s.images records is.images_are j)) (backup_answer asked moment (seen site records)) (SealNow (body_over asked size moment (seen site records) ((is.images_are ∙ sym (entries_seen records)) j)))))
 
 pub backup_decided : (site : Site) (records : List ImageRecord) (request : Request) (asked : Asked) (payload moment : ℕ) (client : List ℕ) (policy schedule : Option (List ℕ)) (start : Option Start) (result : Result Decision AllocError)
     → backup client policy schedule start ≡ class_of request
-    → asked ≡ asked_of client policy schedule start payload
-    → IfOk result (λ d. d ≡ backup_settled asked moment (seen site records))
+    → asked ≡ asked_of client policy schedule start
+    → IfOk result (λ d. d ≡ backup_settled asked payload moment (seen site records))
     → (s : State) (bytes : List ℕ) → IsStateOf site records s → length bytes ≡ payload → IfOk result (IsDecision s request bytes moment)
 backup_decided site records request asked payload moment client policy schedule start (Err e) is made settles s bytes state size = tt
 backup_decided site records request asked payload moment client policy schedule start (Ok d) is made settles s bytes state size =
-    let named = asked_of client policy schedule start (length bytes) in
-    let same : d ≡ backup_settled named moment s = settles ∙ settled_seen asked moment site records s state ∙ ap (λ (a : Asked). backup_settled a moment s) (made ∙ ap (asked_of client policy schedule start) (sym size)) in
+    let named = asked_of client policy schedule start in
+    let same : d ≡ backup_settled named (length bytes) moment s = settles ∙ settled_seen asked payload moment site records s state ∙ (λ j. backup_settled (made j) (sym size j) moment s) in
     subst (λ (class : RequestClass). Decides s class bytes moment d) is
-    (settled_as (first_refusal (backup_refusals named moment s)) (backup_answer named moment s) (SealNow (backup_body named moment s)) (IsChange s (backup client policy schedule start) bytes moment) d same refl)
+    (settled_as (first_refusal (backup_refusals named moment s)) (backup_answer named moment s) (SealNow (backup_body named (length bytes) moment s)) (IsChange s (backup client policy schedule start) bytes moment) d same refl)
 
 -- Restores.
 
@@ -76,6 +84,42 @@ restore_decided site records request payload moment id copy (Ok d) is settles s 
     subst (λ (class : RequestClass). Decides s class bytes moment d) is
     (settled_as (first_refusal (restore_refusals (image_named id s.images) id copy)) (Done []) Nothing (IsChange s (restore id copy) bytes moment) d
     (settles ∙ ap (λ (rs : List (Bool × Answer)). settled (first_refusal rs) (Done []) Nothing) (sym refusals)) refl)
+
+-- Restores of a moment.
+
+one_length : (id : BackupId) (images : List Image) → ((i : Image) → Contains images i → i.entry.length ≡ length i.bytes) → length (bytes_of (image_named id images)) ≡ length_of (record_named id (entries images))
+one_length id [] sized = refl
+one_length id (i ∷ images) sized = at (same_id i.entry.id id) (one_length id images (λ x among. sized x (suc among.0, omega (arith, among.1), among.2)))
+  where
+    at : (here : Bool) → length (bytes_of (image_named id images)) ≡ length_of (record_named id (entries images)) → length (bytes_of (cond here (Some i) (image_named id images))) ≡ length_of (cond here (Some i.entry) (record_named id (entries images)))
+    at true later = sym (sized i (0, omega arith, refl))
+    at false later = later
+
+all_lengths : (images : List Image) → ((i : Image) → Contains images i → i.entry.length ≡ length i.bytes) → (ids : List BackupId) → total (bytes_with images ids) ≡ lengths (entries images) ids
+all_lengths images sized [] = refl
+all_lengths images sized (id ∷ ids) = λ j. one_length id images sized j + all_lengths images sized ids j
+
+abbrev at_refusals : (client policy : List ℕ) → ℕ → Site → List ImageRecord → List (Bool × Answer)
+at_refusals client policy before site records = restore_at_refusals client policy (chain_at policy client before records) (lengths records (ids_of (chain_at policy client before records))) (seen site records)
+
+pub restore_at_decided : (site : Site) (records : List ImageRecord) (request : Request) (payload moment : ℕ) (client policy : List ℕ) (before : Option ℕ) (since : ℕ) (result : Result Decision AllocError)
+    → restore_at client policy before ≡ class_of request
+    → since ≡ unwrap_or before moment
+    → IfOk result (λ d. d ≡ settled (first_refusal (at_refusals client policy since site records)) (Done []) Nothing)
+    → (s : State) (bytes : List ℕ) → IsStateOf site records s → length bytes ≡ payload → IfOk result (IsDecision s request bytes moment)
+restore_at_decided site records request payload moment client policy before since result is since_is settles s bytes state size = at result settles
+  where
+    refusals : (restore_at_case client policy (unwrap_or before moment) s).refusals ≡ at_refusals client policy (unwrap_or before moment) site records
+    refusals =
+        ap (λ (n : ℕ). restore_at_refusals client policy (chain_asked client policy (unwrap_or before moment) s) n s) (all_lengths s.images state.sized (ids_of (chain_asked client policy (unwrap_or before moment) s)))
+        ∙ (λ j. at_refusals client policy (unwrap_or before moment) (state.site_is j) (state.images_are j))
+
+    at : (r : Result Decision AllocError) → IfOk r (λ d. d ≡ settled (first_refusal (at_refusals client policy since site records)) (Done []) Nothing) → IfOk r (IsDecision s request bytes moment)
+    at (Err e) so = tt
+    at (Ok d) so =
+        subst (λ (class : RequestClass). Decides s class bytes moment d) is
+        (settled_as (first_refusal (restore_at_case client policy (unwrap_or before moment) s).refusals) (Done []) Nothing (IsChange s (restore_at client policy before) bytes moment) d
+        (so ∙ ap (λ (n : ℕ). settled (first_refusal (at_refusals client policy n site records)) (Done []) Nothing) since_is ∙ ap (λ (rs : List (Bool × Answer)). settled (first_refusal rs) (Done []) Nothing) (sym refusals)) refl)
 
 -- Changes of the site.
 
@@ -108,3 +152,13 @@ setting_decided site records request change payload moment (Ok d) is settles s b
 
 pub file_decided : (request : Request) (payload moment : ℕ) (d : Decision) → site_file ≡ class_of request → d.answer ≡ Done [] → d.change ≡ Load → (s : State) (bytes : List ℕ) → length bytes ≡ payload → IsDecision s request bytes moment d
 file_decided request payload moment d is answer change s bytes size = subst (λ (class : RequestClass). Decides s class bytes moment d) is (answer, change)
+
+-- One image more.
+lengths_push : (images : List ImageRecord) (ids : List BackupId) (id : BackupId) → lengths images (ids ++ id ∷ []) ≡ lengths images ids + length_of (record_named id images)
+lengths_push images [] id = omega arith
+lengths_push images (first ∷ ids) id = let later = lengths_push images ids id in omega (arith, later)
+
+pub lengths_more : (images : List ImageRecord) (ids : List BackupId) (i total total' : ℕ) (id : BackupId) → i < length ids → id ≡ get_or ids i id → total ≡ lengths images (take i ids) → total' ≡ total + length_of (record_named id images) → total' ≡ lengths images (take (i + 1) ids)
+lengths_more images ids i total total' id lt is so adds =
+    let next : take i ids ++ id ∷ [] ≡ take (i + 1) ids = ap (λ (x : BackupId). take i ids ++ x ∷ []) is ∙ sym (take_more ids i id lt) in
+    adds ∙ ap (λ (n : ℕ). n + length_of (record_named id images)) so ∙ sym (lengths_push images (take i ids) id) ∙ ap (lengths images) next

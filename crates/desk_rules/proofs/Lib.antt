@@ -1,4 +1,5 @@
 pub mod Common
+pub mod ContentLemmas
 pub mod LastTimeLemmas
 pub mod ForemostLemmas
 pub mod DueLemmas

@@ -1,9 +1,9 @@
 -- What is seen of a state.
-use Rattle.desk_rules.proofs.Common.{◌≡◌, ◌∙◌, List, [], ◌∷◌, ◌++◌, Option, None, Some, map, sym, ap, refl, ℕ, unwrap_or, codes, option_map_or, Answer, Done, Schedule, SealNow, ImageRecord, Request, State, entries, gone_client, gone_policy, removal_of, use_refusals, used_by, uses_of, Policy, adhoc, manual, Asked, backup_refusals, client_refusals, latest_version, new_time, policy_asked, schedule_asked, first_refusal, backup_body, JobBody, Backup, Site, settled, backup_answer, blank, room_under, seen}
+use Rattle.desk_rules.proofs.Common.{◌≡◌, ◌∙◌, List, [], ◌∷◌, ◌++◌, Option, None, Some, map, sym, ap, refl, ℕ, unwrap_or, codes, option_map_or, Answer, Done, Schedule, SealNow, ImageRecord, Request, State, entries, gone_client, gone_policy, removal_of, use_refusals, used_by, uses_of, Policy, adhoc, manual, Asked, backup_refusals, base_of, reference_of, client_refusals, latest_version, new_time, policy_asked, schedule_asked, first_refusal, backup_body, JobBody, Backup, Site, settled, backup_answer, blank, room_under, seen}
 use Rattle.site_types.specs.Ids.{id_text}
 use Rattle.site_types.specs.declared.id.BackupId.{BackupId}
 use Rattle.image_catalogue.specs.Images.{first_of_client, first_under}
-use Rattle.site_types.specs.declared.image.Base.TheVariants as base
+use Rattle.site_types.specs.declared.image.Base.{Base}
 
 pub entries_seen : (images : List ImageRecord) → entries (map blank images) ≡ images
 entries_seen [] = refl
@@ -29,28 +29,29 @@ backup_seen site images asked policy moment found =
     ap (λ (p : Option Policy). client_refusals asked (policy_asked asked s) s ++ room_under (unwrap_or p adhoc) asked (entries s.images) moment s) found
     ∙ ap (λ (is : List ImageRecord). client_refusals asked (policy_asked asked s) s ++ room_under policy asked is moment s) (entries_seen images)
 
--- the body of a backup under a policy and a schedule
-abbrev body_under : Asked → ℕ → State → Policy → Schedule → JobBody
-body_under asked moment s policy schedule =
-    Backup (record { client = asked.client; time = new_time asked.client moment s }) policy.name schedule.name schedule.kind base.None policy.lifecycle (latest_version policy.lifecycle s.site.book) asked.size
+-- the body of a backup of so many bytes under a policy and a schedule
+abbrev body_under : Asked → ℕ → ℕ → State → Policy → Schedule → JobBody
+body_under asked size moment s policy schedule =
+    Backup (record { client = asked.client; time = new_time asked.client moment s }) policy.name schedule.name schedule.kind (base_of (reference_of asked.client policy schedule s)) policy.lifecycle (latest_version policy.lifecycle s.site.book) size
 
 -- a backup that nothing refuses
-pub made_settles : (asked : Asked) (policy : Policy) (schedule : Schedule) (moment : ℕ) (s : State) (id : BackupId) (answer : Answer) (body : JobBody)
+pub made_settles : (asked : Asked) (policy : Policy) (schedule : Schedule) (size moment : ℕ) (s : State) (id : BackupId) (base : Base) (answer : Answer) (body : JobBody)
     → policy_asked asked s ≡ Some policy
     → schedule_asked asked s ≡ Some schedule
     → first_refusal (backup_refusals asked moment s) ≡ None
     → id ≡ record { client = asked.client; time = new_time asked.client moment s }
+    → base ≡ base_of (reference_of asked.client policy schedule s)
     → answer ≡ Done (id_text id ++ codes "\n")
-    → body ≡ Backup id policy.name schedule.name schedule.kind base.None policy.lifecycle (latest_version policy.lifecycle s.site.book) asked.size
-    → record { answer = answer; change = SealNow body } ≡ settled (first_refusal (backup_refusals asked moment s)) (backup_answer asked moment s) (SealNow (backup_body asked moment s))
-made_settles asked policy schedule moment s id answer body found chosen none is said made =
+    → body ≡ Backup id policy.name schedule.name schedule.kind base policy.lifecycle (latest_version policy.lifecycle s.site.book) size
+    → record { answer = answer; change = SealNow body } ≡ settled (first_refusal (backup_refusals asked moment s)) (backup_answer asked moment s) (SealNow (backup_body asked size moment s))
+made_settles asked policy schedule size moment s id base answer body found chosen none is base_is said made =
     let answered : answer ≡ backup_answer asked moment s = said ∙ ap (λ (i : BackupId). Done (id_text i ++ codes "\n")) is in
-    let under : body_under asked moment s policy schedule ≡ backup_body asked moment s =
-    λ j. body_under asked moment s (unwrap_or (sym found j) adhoc) (unwrap_or (sym chosen j) manual) in
-    let whole : body ≡ backup_body asked moment s =
+    let under : body_under asked size moment s policy schedule ≡ backup_body asked size moment s =
+    λ j. body_under asked size moment s (unwrap_or (sym found j) adhoc) (unwrap_or (sym chosen j) manual) in
+    let whole : body ≡ backup_body asked size moment s =
     made
-    ∙ ap (λ (i : BackupId). Backup i policy.name schedule.name schedule.kind base.None policy.lifecycle (latest_version policy.lifecycle s.site.book) asked.size) is
+    ∙ (λ j. Backup (is j) policy.name schedule.name schedule.kind (base_is j) policy.lifecycle (latest_version policy.lifecycle s.site.book) size)
     ∙ under in
-    let decided : record { answer = answer; change = SealNow body } ≡ settled None (backup_answer asked moment s) (SealNow (backup_body asked moment s)) =
+    let decided : record { answer = answer; change = SealNow body } ≡ settled None (backup_answer asked moment s) (SealNow (backup_body asked size moment s)) =
     λ j. record { answer = answered j; change = SealNow (whole j) } in
-    decided ∙ ap (λ (o : Option Answer). settled o (backup_answer asked moment s) (SealNow (backup_body asked moment s))) (sym none)
+    decided ∙ ap (λ (o : Option Answer). settled o (backup_answer asked moment s) (SealNow (backup_body asked size moment s))) (sym none)

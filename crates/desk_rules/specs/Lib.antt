@@ -4,6 +4,7 @@ pub mod Decisions
 pub mod Refusing
 pub mod Seen
 pub mod Asking
+pub mod Contents
 pub mod SiteChanges
 pub mod Zoned
 pub mod Removals

@@ -7,14 +7,13 @@ use crate::NoMemory;
 use site_types::{Name, Start};
 use std::alloc::Global;
 
-// What a backup is asked for: who is backed up, under which policy and schedule and at whose wish, and how many bytes.
+// What a backup is asked for: who is backed up, under which policy and schedule, and at whose wish.
 #[derive(Debug, Drop)]
 pub(crate) struct BackupAsked<'a> {
     pub client: &'a Name,
     pub policy: Name,
     pub schedule: Option<&'a Name>,
     pub start: Start,
-    pub length: u64,
 }
 
 impl<'a> BackupAsked<'a> {
@@ -25,16 +24,14 @@ impl<'a> BackupAsked<'a> {
         policy: Option<&Name>,
         schedule: Option<&'a Name>,
         start: Option<Start>,
-        length: u64,
     ) -> Result<BackupAsked<'a>, NoMemory>
-        ensures { IfOk result (λ asked. asked_by asked ≡ asked_of client.now (option_map (λ p. p.now) policy.entry) (option_map (λ s. s.now) schedule.entry) start length) }
+        ensures { IfOk result (λ asked. asked_by asked ≡ asked_of client.now (option_map (λ p. p.now) policy.entry) (option_map (λ s. s.now) schedule.entry) start) }
     {
         Ok(BackupAsked {
             client,
             policy: named_or_adhoc(alloc, policy)?,
             schedule,
             start: start.unwrap_or(Start::Manual),
-            length,
         })
     }
 }

@@ -53,7 +53,11 @@ fn check_images(alloc: Global, images: &Catalogue) -> Result<(), Refusal>
     Ok(())
 }
 
-fn known_policy<'a>(alloc: Global, book: &'a Book, name: &Name) -> Result<&'a Policy, Refusal>
+pub(crate) fn known_policy<'a>(
+    alloc: Global,
+    book: &'a Book,
+    name: &Name,
+) -> Result<&'a Policy, Refusal>
     ensures passes { Passes ((is_none (named policy_name name.now book.now.policies), answer.Unknown name.now) ∷ []) result }
     ensures policy { IfOk result (λ p. named policy_name name.now book.now.policies ≡ Some p.now) }
 {
@@ -72,7 +76,7 @@ pub fn takes_all(policy: &Name) -> bool
     policy.bytes() == b"adhoc".as_slice()
 }
 
-fn is_known(client: &Name, book: &Book) -> bool
+pub(crate) fn is_known(client: &Name, book: &Book) -> bool
     ensures { result ≡ is_known client.now book.now }
 {
     book.client(client).is_some()

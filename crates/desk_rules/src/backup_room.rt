@@ -40,10 +40,8 @@ pub(crate) fn check_room<'a>(
     check_active(alloc, policy, asked)?;
     check_window(alloc, &site.zone, asked.start, schedule, moment)?;
     let unit = unit_of(alloc, &site.book, policy)?;
-    let held = images.used(&unit.name);
-    check_mark(alloc, &unit, held)?;
+    check_mark(alloc, &unit, images.used(&unit.name))?;
     check_time(alloc, site.book.last_of(asked.client), moment)?;
-    check_space(alloc, &unit, held, asked.length)?;
     Ok(schedule)
 }
 
@@ -135,7 +133,7 @@ fn check_window(
 }
 
 // The unit to which backups under a policy go.
-fn unit_of(alloc: Global, book: &Book, policy: &Policy) -> Result<Unit, NoMemory>
+pub(crate) fn unit_of(alloc: Global, book: &Book, policy: &Policy) -> Result<Unit, NoMemory>
     ensures { IfOk result (λ u. u ≡ unit_at (backup_unit policy.now book.now) book.now) }
 {
     match unit_named(unit_name(book, policy.lifecycle()), book.units()) {
@@ -209,20 +207,6 @@ fn check_time(alloc: Global, last: u64, moment: u64) -> Result<(), Refusal>
             kind: Text::new(alloc, b"time")?,
             count: last,
             limit: LAST_MOMENT,
-        }));
-    }
-    Ok(())
-}
-
-fn check_space(alloc: Global, unit: &Unit, held: u64, length: u64) -> Result<(), Refusal>
-    ensures { Passes ((nat_lt unit.now.capacity (held + length), answer.UnitFull unit.now.name held length unit.now.capacity) ∷ []) result }
-{
-    if u128::from(held) + u128::from(length) > u128::from(unit.capacity) {
-        return Err(Refusal::Answered(Answer::UnitFull {
-            unit: unit.name.copy(alloc)?,
-            used: held,
-            length,
-            capacity: unit.capacity,
         }));
     }
     Ok(())

@@ -3,10 +3,10 @@ ghost use Rattle.std.specs.Prelude.{◌≡◌, ◌≤◌, ◌+◌, ◌++◌, Som
 ghost use Rattle.site_types.specs.Ids.{id_text};
 ghost use Rattle.site_types.specs.Limits.{last_moment};
 ghost use Rattle.site_types.specs.declared.answer.Answer.TheVariants as answer;
-ghost use Rattle.site_types.specs.declared.image.Base.TheVariants as base;
 ghost use Rattle.policy_book.specs.Changes.{last_of};
-ghost use Rattle.desk_model.specs.Backups.{backup_refusals, latest_version, policy_asked, schedule_asked};
+ghost use Rattle.desk_model.specs.Backups.{backup_refusals, base_of, latest_version, policy_asked, schedule_asked};
 ghost use Rattle.desk_model.specs.Refusals.{first_refusal};
+ghost use Rattle.restore_engine.specs.Chains.{reference};
 ghost use Rattle.desk_rules.specs.declared.decision.JobBody.TheVariants as body;
 ghost use Rattle.desk_rules.specs.declared.decision.Change.TheVariants as change;
 ghost use Rattle.desk_rules.specs.Asking.{asked_by};
@@ -22,7 +22,8 @@ use crate::{Change, Decision, JobBody, NoMemory};
 use desk_model::Site;
 use image_catalogue::Catalogue;
 use policy_book::Policy;
-use site_types::{Answer, BackupId, Base, Name, Schedule, Text};
+use restore_engine::reference;
+use site_types::{Answer, BackupId, Base, Kind, Name, Schedule, Text};
 use std::alloc::Global;
 
 // The payload is sealed as an image at this moment.
@@ -31,18 +32,20 @@ pub(crate) fn decide_backup<'a>(
     site: &Site,
     images: &Catalogue,
     asked: &BackupAsked<'_>,
+    length: u64,
     moment: u64,
 ) -> Result<Decision<'a>, NoMemory>
     requires { moment ≤ last_moment }
-    ensures { IfOk result (λ d. d ≡ settled (first_refusal (backup_refusals (asked_by asked.now) moment (seen site.now images.now))) (backup_answer (asked_by asked.now) moment (seen site.now images.now)) (change.SealNow (backup_body (asked_by asked.now) moment (seen site.now images.now)))) }
+    ensures { IfOk result (λ d. d ≡ settled (first_refusal (backup_refusals (asked_by asked.now) moment (seen site.now images.now))) (backup_answer (asked_by asked.now) moment (seen site.now images.now)) (change.SealNow (backup_body (asked_by asked.now) length moment (seen site.now images.now)))) }
 {
     match check_backup(alloc, site, images, asked, moment) {
         Ok((policy, schedule)) => {
             let id = new_id(alloc, site, asked.client, moment)?;
+            let base = base_of(alloc, images, policy, asked.client, schedule.kind)?;
             Ok(Decision {
                 answer: id_answer(alloc, &id)?,
                 change: Change::SealNow {
-                    body: backup_body(alloc, site, id, policy, schedule, asked.length)?,
+                    body: backup_body(alloc, site, id, policy, schedule, base, length)?,
                 },
             })
         }
@@ -79,6 +82,24 @@ fn new_id(alloc: Global, site: &Site, client: &Name, moment: u64) -> Result<Back
     })
 }
 
+// The image that the backup builds on.
+fn base_of(
+    alloc: Global,
+    images: &Catalogue,
+    policy: &Policy,
+    client: &Name,
+    kind: Kind,
+) -> Result<Base, NoMemory>
+    ensures { IfOk result (λ b. b ≡ base_of (reference policy.now.name client.now kind images.now)) }
+{
+    Ok(
+        match reference(alloc, images, policy.name(), client, kind)? {
+            Some(time) => Base::Time(time),
+            None => Base::None,
+        },
+    )
+}
+
 fn id_answer(alloc: Global, id: &BackupId) -> Result<Answer, NoMemory>
     ensures { IfOk result (λ a. a ≡ answer.Done (id_text id.now ++ codes "\n")) }
 {
@@ -95,16 +116,17 @@ fn backup_body(
     id: BackupId,
     policy: &Policy,
     schedule: &Schedule,
+    base: Base,
     length: u64,
 ) -> Result<JobBody, NoMemory>
-    ensures { IfOk result (λ b. b ≡ body.Backup id policy.now.name schedule.now.name schedule.now.kind base.None policy.now.lifecycle (latest_version policy.now.lifecycle site.now.book) length) }
+    ensures { IfOk result (λ b. b ≡ body.Backup id policy.now.name schedule.now.name schedule.now.kind base policy.now.lifecycle (latest_version policy.now.lifecycle site.now.book) length) }
 {
     Ok(JobBody::Backup {
         id,
         policy: policy.name().copy(alloc)?,
         schedule: schedule.name.copy(alloc)?,
         kind: schedule.kind,
-        base: Base::None,
+        base,
         lifecycle: policy.lifecycle().copy(alloc)?,
         version: latest_version(&site.book, policy.lifecycle()),
         length,

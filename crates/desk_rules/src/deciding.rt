@@ -7,6 +7,7 @@ ghost use Rattle.desk_rules.specs.Decisions.{IsDecision, IsStateOf};
 
 use crate::asked::BackupAsked;
 use crate::backups::decide_backup;
+use crate::moments::decide_restore_at;
 use crate::restores::decide_restore;
 use crate::settings::decide_setting;
 use crate::{Change, Decision, NoMemory};
@@ -43,9 +44,17 @@ pub fn decide<'a>(
             schedule,
             start,
         } => {
-            let asked = BackupAsked::new(alloc, client, policy, schedule, start, payload)?;
-            decide_backup(alloc, site, images, &asked, moment)
+            let asked = BackupAsked::new(alloc, client, policy, schedule, start)?;
+            decide_backup(alloc, site, images, &asked, payload, moment)
         }
         ByClass::Restore { id, copy } => decide_restore(alloc, images, id, copy),
+        ByClass::RestoreAt {
+            client,
+            policy,
+            before,
+        } => {
+            let before = before.unwrap_or(moment);
+            decide_restore_at(alloc, site, images, client, policy, before)
+        }
     }
 }

@@ -18,6 +18,27 @@ pub enum JobBody {
     },
 }
 
+impl JobBody {
+    ghost use Rattle.std.specs.Prelude.{◌≡◌};
+    ghost use Rattle.desk_rules.specs.Contents.{base_in, policy_in};
+
+    /// The policy under which it is made.
+    pub fn policy(&self) -> &Name
+        ensures { result.now ≡ policy_in self.now }
+    {
+        let JobBody::Backup { policy, .. } = self;
+        policy
+    }
+
+    /// The image that it builds on.
+    pub fn base(&self) -> Base
+        ensures { result ≡ base_in self.now }
+    {
+        let JobBody::Backup { base, .. } = self;
+        *base
+    }
+}
+
 /// A change of a site that nothing refuses.
 #[derive(Debug, Drop)]
 pub enum SiteChange<'a> {

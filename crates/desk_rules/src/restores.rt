@@ -7,7 +7,7 @@ ghost use Rattle.site_types.specs.Limits.{payload_limit};
 ghost use Rattle.site_types.specs.declared.answer.Answer.TheVariants as answer;
 ghost use Rattle.image_catalogue.specs.Images.{record_named};
 ghost use Rattle.desk_model.specs.Refusals.{first_refusal};
-ghost use Rattle.desk_model.specs.Step.{has_copy, restore_refusals};
+ghost use Rattle.desk_model.specs.Restores.{has_copy, restore_refusals};
 ghost use Rattle.desk_rules.specs.declared.decision.Change.TheVariants as change;
 ghost use Rattle.desk_rules.specs.Refusing.{Passes, settled};
 ghost use Rattle.desk_rules.specs.Seen.{blank};
