@@ -2,7 +2,7 @@
 use Rattle.std.proofs.Common.{◌≡◌, ℕ, List, refl}
 use Rattle.std.specs.Prelude.{Option, Some, None}
 use Rattle.site_types.specs.Answers.{NeedsMemory}
-use Rattle.site_types.specs.Classes.{RequestClass, site_change, site_file, backup, restore, class_of}
+use Rattle.site_types.specs.Classes.{RequestClass, site_change, site_file, backup, restore, restore_at, class_of}
 use Rattle.site_types.specs.declared.request.Request.{Request}
 use Rattle.site_types.specs.declared.answer.Answer.{Answer}
 use Rattle.desk_model.specs.State.{State}
@@ -15,6 +15,7 @@ ready s (site_change request) payload moment none = none
 ready s site_file payload moment none = none
 ready s (backup client policy schedule start) payload moment none = none
 ready s (restore id copy) payload moment none = none
+ready s (restore_at client policy before) payload moment none = none
 
 unmoved : (s : State) (refusal shown : Option Answer) (done : Answer × State) → (NeedsMemory done.0 → ⊥) → NeedsMemory (unless_refused s refusal (unless_refused s shown done)).0 → (unless_refused s refusal (unless_refused s shown done)).1 ≡ s
 unmoved s (Some a) shown done is_ready needs = refl

@@ -10,7 +10,7 @@ use Rattle.site_types.specs.Lines.{IsFormed, line_of}
 use Rattle.site_types.specs.declared.answer.Answer.{Answer}
 use Rattle.site_types.specs.declared.answer.Answer.TheVariants.{Done}
 use Rattle.site_types.specs.declared.request.Request.{Request}
-use Rattle.site_types.specs.declared.request.Request.TheVariants.{Load, Backup, Restore}
+use Rattle.site_types.specs.declared.request.Request.TheVariants.{Load, Backup, Restore, RestoreAt}
 use Rattle.pool_journal.proofs.ImageBytes.{still_there}
 use Rattle.pool_journal.specs.declared.entry.Entry.TheVariants as entry
 use Rattle.pool_journal.specs.Entries.{Record, IsStaged}
@@ -36,6 +36,7 @@ pub class_change : (request : Request) → is_setting request ≡ true → class
 class_change Load is = absurd (cc is)
 class_change (Backup client policy schedule start) is = absurd (cc is)
 class_change (Restore id copy) is = absurd (cc is)
+class_change (RestoreAt client policy before) is = absurd (cc is)
 class_change request is = refl
 
 setting_steps : (s : State) (request : Request) (payload : List ℕ) (moment : ℕ) → is_setting request ≡ true → step s request payload moment ≡ setting_step request s

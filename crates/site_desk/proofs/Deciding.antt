@@ -2,7 +2,7 @@
 use Rattle.std.proofs.Common.{◌≡◌, ◌≢◌, ◌∙◌, ℕ, List, [], ◌∷◌, length, map, Some, None, refl, sym, ap, subst}
 use Rattle.std.specs.Prelude.{Option, Bool, Contains, ◌++◌}
 use Rattle.std.specs.Option.{option_map_or}
-use Rattle.site_types.specs.Classes.{RequestClass, site_change, site_file, backup, restore, class_of}
+use Rattle.site_types.specs.Classes.{RequestClass, site_change, site_file, backup, restore, restore_at, class_of}
 use Rattle.site_types.specs.declared.answer.Answer.{Answer}
 use Rattle.site_types.specs.declared.answer.Answer.TheVariants.{Done}
 use Rattle.site_types.specs.declared.request.Request.{Request}
@@ -51,8 +51,9 @@ plain_settings request s = plain_before (refusals_of request s.site.book) (use_r
 plain_case : (s : State) (class : RequestClass) (payload : List ℕ) (moment : ℕ) → ArePlain (case_of s class payload moment).refusals
 plain_case s (site_change request) payload moment = plain_settings request s
 plain_case s site_file payload moment = tt
-plain_case s (backup client policy schedule start) payload moment = ((tt, tt), ((tt, tt), ((tt, tt), ((tt, tt), ((tt, tt), ((tt, tt), ((tt, tt), ((tt, tt), ((tt, tt), ((tt, tt), ((tt, tt), tt)))))))))))
+plain_case s (backup client policy schedule start) payload moment = ((tt, tt), ((tt, tt), ((tt, tt), ((tt, tt), ((tt, tt), ((tt, tt), ((tt, tt), ((tt, tt), ((tt, tt), ((tt, tt), tt))))))))))
 plain_case s (restore id copy) payload moment = ((tt, tt), ((tt, tt), ((tt, tt), tt)))
+plain_case s (restore_at client policy before) payload moment = ((tt, tt), ((tt, tt), ((tt, tt), ((tt, tt), ((tt, tt), tt)))))
 
 -- A decision on a request of this class.
 module _ (s : State) (request : Request) (class : RequestClass) (payload : List ℕ) (moment : ℕ) (d : Decision) (class_is : class_of request ≡ class) (decided : IsDecision s request payload moment d) where

@@ -1,4 +1,7 @@
 pub mod Admitting
+pub mod ChainImages
+pub mod ChainPlaces
+pub mod ChainReading
 pub mod Changing
 pub mod Deciding
 pub mod ExtentLemmas

@@ -14,7 +14,8 @@ use Rattle.pool_journal.specs.Records.{Found, reading}
 use Rattle.image_catalogue.specs.Images.{record_named}
 use Rattle.desk_model.specs.State.{State, Image, Stored, image_named}
 use Rattle.desk_model.specs.Refusals.{first_refusal, unless_refused, step_of}
-use Rattle.desk_model.specs.Step.{case_of, step, restore_refusals, bytes_of}
+use Rattle.desk_model.specs.Restores.{restore_refusals, bytes_of}
+use Rattle.desk_model.specs.Step.{case_of, step}
 use Rattle.desk_rules.specs.declared.decision.Decision.{Decision}
 use Rattle.desk_rules.specs.Decisions.{IsDecision}
 use Rattle.desk_rules.specs.Seen.{blank, seen}
@@ -22,7 +23,7 @@ use Rattle.desk_rules.proofs.SeenLemmas.{entries_seen}
 use Rattle.site_desk.specs.Stands.{stood, Standing, StandsFor, Between}
 use Rattle.site_desk.specs.Extents.{extent_of, IsKeptAt, IsKept}
 use Rattle.site_desk.specs.Index.{built, Remembers}
-use Rattle.site_desk.specs.Desk.{desk_state, images_in, stored_in, Kept, IsDone, Answered, Moved, reached}
+use Rattle.site_desk.specs.Desk.{desk_state, images_in, stored_in, Kept, MayFail, Answered, Moved, reached}
 use Rattle.site_desk.specs.Steps.{Steps, IsRefused, IsStepRefusal}
 use Rattle.site_desk.specs.declared.extents.Extent.{Extent}
 use Rattle.site_desk.specs.declared.index.Index.{Index}
@@ -83,7 +84,7 @@ module _ (request : Request) (id : BackupId) (payload : List ℕ) (moment : ℕ)
 
 -- a desk that kept a state, whose vault was looked around
 module _ (old new : Disk) (end : ℕ) (index : Index) (kept : Kept old end index) where
-  abbrev start : State
+  abbrev pub start : State
   start = built index.site kept.images kept.stored
 
   start_is : desk_state old index.site ≡ start
@@ -98,20 +99,20 @@ module _ (old new : Disk) (end : ℕ) (index : Index) (kept : Kept old end index
   same_state : LookedAround old new → desk_state new index.site ≡ start
   same_state looked = ap (λ (bytes : List ℕ). built index.site (images_in (stood (reading bytes))) (stored_in (stood (reading bytes)))) (looked.rests.seen 0) ∙ start_is
 
-  module _ (request : Request) (id : BackupId) (payload : List ℕ) (moment : ℕ) (restores : (copy : Option ℕ) × (class_of request ≡ restore id copy)) (done : (step start request payload moment).0 ≡ Done (bytes_of (image_named id kept.images))) where
-    -- the state stays, whatever it is answered
-    stays_steps : (a : Answer) → LookedAround old new → Answered start request payload moment a → Moved start request payload moment a start → Steps (desk_state old index.site) request payload moment a old new (desk_state new index.site)
-    stays_steps a looked answers moves =
-        subst (λ (s : State). Steps s request payload moment a old new (desk_state new index.site)) (sym start_is)
-        (subst (λ (t : State). Steps start request payload moment a old new t) (sym (same_state looked)) (record {
-          answers = answers;
-          moves = moves;
-          standing = λ other. record { each = λ c left. stands_now.each c (looked.rests.left c left) };
-          stops = looked_between start (reached start request payload moment a) old new stands_now looked;
-        }))
+  -- the state stays, whatever it is answered
+  pub stays_steps : (request : Request) (payload : List ℕ) (moment : ℕ) (a : Answer) → LookedAround old new → Answered start request payload moment a → Moved start request payload moment a start → Steps (desk_state old index.site) request payload moment a old new (desk_state new index.site)
+  stays_steps request payload moment a looked answers moves =
+      subst (λ (s : State). Steps s request payload moment a old new (desk_state new index.site)) (sym start_is)
+      (subst (λ (t : State). Steps start request payload moment a old new t) (sym (same_state looked)) (record {
+        answers = answers;
+        moves = moves;
+        standing = λ other. record { each = λ c left. stands_now.each c (looked.rests.left c left) };
+        stops = looked_between start (reached start request payload moment a) old new stands_now looked;
+      }))
 
+  module _ (request : Request) (id : BackupId) (payload : List ℕ) (moment : ℕ) (restores : (copy : Option ℕ) × (class_of request ≡ restore id copy)) (done : (step start request payload moment).0 ≡ Done (bytes_of (image_named id kept.images))) where
     pub fault_steps : LookedAround old new → Steps (desk_state old index.site) request payload moment DiskFault old new (desk_state new index.site)
-    fault_steps looked = stays_steps DiskFault looked (subst IsDone (sym done) tt) tt
+    fault_steps looked = stays_steps request payload moment DiskFault looked (subst (MayFail (class_of request)) (sym done) tt) tt
 
     kept_at : (extent : Extent) (e : Option Extent) (o : Option Image) → e ≡ Some extent → IsKept kept.kept.records e o → (image : Image) × (o ≡ Some image) × IsKeptAt kept.kept.records extent image
     kept_at extent None o is kept_so = absurd (cc is)
@@ -123,4 +124,4 @@ module _ (old new : Disk) (end : ℕ) (index : Index) (kept : Kept old end index
     given_steps extent body looked there read =
         let here = kept_at extent (extent_of id index.extents) (image_named id kept.images) there (kept.remembers.catalogued id) in
         let at : IsKeptAt kept.kept.records extent here.0 = here.2 in
-        stays_steps (Done body) looked (ap Done (read at.place at.among at.from at.size ∙ sym at.bytes ∙ sym (ap bytes_of here.1)) ∙ sym done) (sym (step_stays request id payload moment restores start))
+        stays_steps request payload moment (Done body) looked (ap Done (read at.place at.among at.from at.size ∙ sym at.bytes ∙ sym (ap bytes_of here.1)) ∙ sym done) (sym (step_stays request id payload moment restores start))

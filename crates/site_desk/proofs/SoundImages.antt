@@ -21,7 +21,7 @@ use Rattle.policy_book.specs.Lists.{has}
 use Rattle.policy_book.specs.Book.{policy_name, client_limit}
 use Rattle.desk_model.specs.State.{State, initial, has_image}
 use Rattle.desk_model.specs.Refusals.{first_refusal}
-use Rattle.desk_model.specs.Backups.{Asked, image_limit, takes_all, is_known, sealed_entry, sealed, backup_refusals, backup_done}
+use Rattle.desk_model.specs.Backups.{Asked, image_limit, takes_all, is_known, sealed_entry, sealed, backup_refusals, backup_done, image_asked}
 use Rattle.desk_model.specs.Settings.{is_setting, setting_refusals, set_by}
 use Rattle.desk_model.specs.Sound.{Sound, IsBase, KeepsCopies}
 use Rattle.desk_model.proofs.Asking.{line_asks}
@@ -152,9 +152,20 @@ client_there false takes count room =
     let few : nat_lt count client_limit ≡ true = let lt = some.1 in grind (arith, nat_tests, lt) in
     λ i. some.0 i && few i
 
-module _ (s : State) (sound : Sound s) (asked : Asked) (payload : List ℕ) (moment : ℕ) where
+-- a base from 1 on and below a time
+below_base : (b : Base) (time : ℕ) → IsBase b time → is_base_below b time ≡ true
+below_base base.None time is = refl
+below_base (base.Time moment) time is =
+    let from : nat_le 1 moment ≡ true = let low = is.0 in grind (arith, nat_tests, low) in
+    let to : nat_lt moment time ≡ true = let high = is.1 in grind (arith, nat_tests, high) in
+    λ i. from i && to i
+
+module _ (s : State) (sound : Sound s) (asked : Asked) (payload : List ℕ) (size moment : ℕ) where
+  abbrev image : Image
+  image = image_asked asked payload moment s
+
   abbrev w : WholeImage
-  w = whole_of (backup_body asked moment s) moment
+  w = whole_of (backup_body asked size moment s) (length image.bytes) moment
 
   -- it is one that an opening takes
   pub taken : moment ≤ last_moment → first_refusal (backup_refusals asked moment s) ≡ None → image_fits s w ≡ true
@@ -170,10 +181,9 @@ module _ (s : State) (sound : Sound s) (asked : Asked) (payload : List ℕ) (mom
       let policy : has policy_name w.policy s.site.book.policies ≡ true = fits.policy in
       let version : is_some (version_named w.lifecycle w.version s.site.book.lifecycles) ≡ true = fits.version in
       let client : client_fits s w ≡ true = client_there (is_known w.id.client s.site.book) (takes_all w.policy) (length s.site.book.clients) fits.client in
-      λ i. room i && fresh i && policy i && version i && client i && from i && to i && true && completed i
+      let below : is_base_below w.base w.id.time ≡ true = below_base w.base w.id.time fits.base in
+      λ i. room i && fresh i && policy i && version i && client i && from i && to i && below i && completed i
 
   -- and its record makes the state after it
-  pub backup_applies : asked.size ≡ length payload → moment ≤ last_moment → first_refusal (backup_refusals asked moment s) ≡ None → apply s (record { entry = entry.WholeImage w; bytes = payload }) ≡ Some (backup_done asked payload moment s).1
-  backup_applies size early none =
-      (λ i. if taken early none i then Some (sealed (whole_image s w payload) (whole_unit s w) s) else None)
-      ∙ ap (λ (n : ℕ). Some (sealed (whole_image s (record w { length = n }) payload) (whole_unit s w) s)) size
+  pub backup_applies : moment ≤ last_moment → first_refusal (backup_refusals asked moment s) ≡ None → apply s (record { entry = entry.WholeImage w; bytes = image.bytes }) ≡ Some (backup_done asked payload moment s).1
+  backup_applies early none = λ i. if taken early none i then Some (sealed (whole_image s w image.bytes) (whole_unit s w) s) else None

@@ -1,6 +1,7 @@
 -- A step whose record is made ready and then written.
 use Rattle.std.proofs.Common.{◌≡◌, ◌+◌, ℕ, List, length, Result, Ok, Err, Some, refl, sym, ◌∙◌, ap, subst, arith}
 use Rattle.std.specs.Prelude.{OnOk}
+use Rattle.site_types.specs.Classes.{class_of}
 use Rattle.site_types.specs.declared.answer.Answer.{Answer}
 use Rattle.site_types.specs.declared.answer.Answer.TheVariants.{Done, DiskFault}
 use Rattle.site_types.specs.declared.request.Request.{Request}
@@ -13,7 +14,7 @@ use Rattle.desk_model.specs.State.{State, durable}
 use Rattle.desk_model.specs.Step.{step}
 use Rattle.site_desk.specs.Stands.{apply, Standing, Between}
 use Rattle.site_desk.specs.Index.{built, Remembers, SameIndex}
-use Rattle.site_desk.specs.Desk.{desk_state, KeptState, KeptMore, Kept, IsDone, reached, Commits}
+use Rattle.site_desk.specs.Desk.{desk_state, KeptState, KeptMore, Kept, MayFail, reached, Commits}
 use Rattle.site_desk.specs.Steps.{Steps, IsReady, IsRefused}
 use Rattle.site_desk.specs.declared.index.Index.{Index}
 use Rattle.site_desk.proofs.Standings.{standing, nothing_done}
@@ -103,7 +104,7 @@ module _ {T E : Type 0} (request : Request) (payload : List ℕ) (moment : ℕ) 
 
   pub fault_steps : (t : State) → Steps (desk_state old index.site) request payload moment DiskFault old new t
   fault_steps t = subst (λ (s : State). Steps s request payload moment DiskFault old new t) (sym (state_is old end index kept)) (record {
-    answers = subst IsDone (sym (ap (λ (p : Answer × State). p.0) ready.steps)) tt;
+    answers = subst (MayFail (class_of request)) (sym (ap (λ (p : Answer × State). p.0) ready.steps)) tt;
     moves = tt;
     standing = λ other. absurd (other refl);
     stops = subst (λ (u : State). Between before u old new) (sym stepped) committed.between;

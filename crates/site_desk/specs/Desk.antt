@@ -1,7 +1,8 @@
 -- What contracts see of a desk.
-use Rattle.std.specs.Prelude.{◌≡◌, ℕ, Bool, List, [], None, Result, Ok, Err, OnOk}
+use Rattle.std.specs.Prelude.{◌≡◌, ℕ, Bool, true, false, List, [], None, Result, Ok, Err, OnOk}
+use Rattle.site_types.specs.Classes.{RequestClass, site_change, site_file, backup, restore, restore_at, class_of}
 use Rattle.site_types.specs.declared.answer.Answer.{Answer}
-use Rattle.site_types.specs.declared.answer.Answer.TheVariants.{Done, OutOfMemory, BadRequest, DiskFault, ReadFault, SendFault, ClockFault, NotAVault}
+use Rattle.site_types.specs.declared.answer.Answer.TheVariants.{Done, OutOfMemory, BadRequest, BadStream, DiskFault, ReadFault, SendFault, ClockFault, NotAVault}
 use Rattle.site_types.specs.declared.request.Request.{Request}
 use Rattle.site_types.specs.declared.request.Request.TheVariants.{Load}
 use Rattle.vault_disk.specs.Disk.{Disk}
@@ -51,14 +52,27 @@ pub record Kept (disk : Disk) (end : ℕ) (index : Index) : Type 0 where
   pub kept : KeptState disk end (built index.site images stored)
   pub remembers : Remembers kept.records index images
 
--- a step's answer is the model's, or want of memory, or a fault of the disk where the model refuses nothing
-abbrev pub IsDone : Answer → Type 0
-IsDone (Done body) = Unit {0}
-IsDone _ = ⊥
+-- a restore of a moment sees only once the disk was read whether what it reads is an image
+abbrev pub looks_first : RequestClass → Bool
+looks_first (site_change request) = false
+looks_first site_file = false
+looks_first (backup client policy schedule start) = false
+looks_first (restore id copy) = false
+looks_first (restore_at client policy before) = true
 
+abbrev pub reads_first : Request → Bool
+reads_first request = looks_first (class_of request)
+
+-- so the disk may fail where the model refuses that; and where it refuses nothing
+abbrev pub MayFail : RequestClass → Answer → Type 0
+MayFail class (Done body) = Unit {0}
+MayFail class (BadStream offset) = looks_first class ≡ true
+MayFail class answer = ⊥
+
+-- a step's answer is the model's, or want of memory, or a fault of the disk
 abbrev pub Answered : State → Request → List ℕ → ℕ → Answer → Type 0
 Answered s request payload moment OutOfMemory = Unit {0}
-Answered s request payload moment DiskFault = IsDone (step s request payload moment).0
+Answered s request payload moment DiskFault = MayFail (class_of request) (step s request payload moment).0
 Answered s request payload moment answer = answer ≡ (step s request payload moment).0
 
 -- the state moves as the model's; after want of memory it is as before, and a fault says nothing of it
@@ -92,9 +106,9 @@ IsRefusal (Done body) = ⊥
 IsRefusal DiskFault = ⊥
 IsRefusal answer = Unit {0}
 
--- the image that a backup seals at a moment, as its record has it
-abbrev pub whole_of : JobBody → ℕ → WholeImage
-whole_of (Backup id policy schedule kind base lifecycle version length) moment = record {
+-- the image of so many bytes that a backup seals at a moment, as its record has it
+abbrev pub whole_of : JobBody → ℕ → ℕ → WholeImage
+whole_of (Backup id policy schedule kind base lifecycle version length) size moment = record {
   id = id;
   policy = policy;
   schedule = schedule;
@@ -103,7 +117,7 @@ whole_of (Backup id policy schedule kind base lifecycle version length) moment =
   lifecycle = lifecycle;
   version = version;
   completed = moment;
-  length = length;
+  length = size;
 }
 
 -- the journal is at rest with one record more, and makes this state

@@ -1,5 +1,6 @@
 pub mod Stands
 pub mod Extents
+pub mod Chains
 pub mod SoundIndex
 pub mod Index
 pub mod Replays

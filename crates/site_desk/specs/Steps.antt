@@ -1,6 +1,6 @@
 -- What a step promises, and what is made ready before it writes.
 use Rattle.std.specs.Prelude.{◌≡◌, ◌≢◌, ◌⊎◌, ℕ, ◌+◌, ◌^◌, ◌<◌, Bool, true, false, List, length, Option, Some, None, Result, Ok, Err, Contains}
-use Rattle.site_types.specs.Classes.{RequestClass, site_change, site_file, backup, restore, class_of}
+use Rattle.site_types.specs.Classes.{RequestClass, site_change, site_file, backup, restore, restore_at, class_of}
 use Rattle.site_types.specs.declared.answer.Answer.{Answer}
 use Rattle.site_types.specs.declared.answer.Answer.TheVariants.{Done, OutOfMemory, DiskFault}
 use Rattle.site_types.specs.declared.request.Request.{Request}
@@ -28,6 +28,7 @@ writes (site_change request) = true
 writes site_file = true
 writes (backup client policy schedule start) = true
 writes (restore id copy) = false
+writes (restore_at client policy before) = false
 
 abbrev pub is_written : Request → Bool
 is_written request = writes (class_of request)
@@ -37,6 +38,7 @@ backs_up (site_change request) = false
 backs_up site_file = false
 backs_up (backup client policy schedule start) = true
 backs_up (restore id copy) = false
+backs_up (restore_at client policy before) = false
 
 abbrev pub is_backup : Request → Bool
 is_backup request = backs_up (class_of request)

@@ -16,13 +16,13 @@ use crate::extents::next_extent;
 use crate::index::Index;
 use crate::prepare::Ready;
 use crate::replay::admit_image;
-use desk_rules::{Change, Decision, JobBody, decide};
+use desk_rules::{Change, Decision, JobBody, decide, seal_content};
 use pool_journal::{Entry, Journal, Staged, WholeImage};
 use site_types::{Answer, NoMemory, Request};
 use std::alloc::Global;
 
-fn whole_of(body: JobBody, moment: u64) -> WholeImage
-    ensures { result ≡ whole_of body moment }
+fn whole_of(body: JobBody, size: u64, moment: u64) -> WholeImage
+    ensures { result ≡ whole_of body size moment }
 {
     let JobBody::Backup {
         id,
@@ -32,7 +32,7 @@ fn whole_of(body: JobBody, moment: u64) -> WholeImage
         base,
         lifecycle,
         version,
-        length,
+        length: _,
     } = body;
     WholeImage {
         id,
@@ -43,7 +43,7 @@ fn whole_of(body: JobBody, moment: u64) -> WholeImage
         lifecycle,
         version,
         completed: moment,
-        length,
+        length: size,
     }
 }
 
@@ -53,19 +53,19 @@ fn seal(
     index: &mut Index,
     end: u64,
     image: WholeImage,
-    payload: &[u8],
+    bytes: &[u8],
 ) -> Result<Staged, NoMemory>
-    requires payload { length payload.now ≤ payload_limit }
-    requires length { image.length ≡ length payload.now }
+    requires bytes { length bytes.now ≤ payload_limit }
+    requires length { image.length ≡ length bytes.now }
     requires base { image.base ≢ base.Time 0 }
     requires fits { FitsIndex index.old image }
-    ensures staged { IfOk result (IsStaged (record { entry = entry.WholeImage image; bytes = payload.now })) }
-    ensures taken { (records : List Found) (images : List Image) (stored : List Stored) → Remembers records index.old images → OnOk result (IsTaken records end (built index.old.site images stored) (record { entry = entry.WholeImage image; bytes = payload.now }) index.new) }
+    ensures staged { IfOk result (IsStaged (record { entry = entry.WholeImage image; bytes = bytes.now })) }
+    ensures taken { (records : List Found) (images : List Image) (stored : List Stored) → Remembers records index.old images → OnOk result (IsTaken records end (built index.old.site images stored) (record { entry = entry.WholeImage image; bytes = bytes.now }) index.new) }
     ensures unchanged { OnErr result (SameIndex index.old index.new) }
 {
     let entry = Entry::WholeImage(image);
-    let extent = next_extent(end, &entry, payload);
-    let staged = Journal::stage(alloc, &entry, payload)?;
+    let extent = next_extent(end, &entry, bytes);
+    let staged = Journal::stage(alloc, &entry, bytes)?;
     let Entry::WholeImage(image) = &entry else {
         unreachable!()
     };
@@ -103,7 +103,13 @@ pub fn prepare_backup(
         Answer::Done { body: line } => line,
         refusal => return Err(refusal),
     };
-    match seal(alloc, index, end, whole_of(body, moment), payload) {
+    let content = match seal_content(alloc, &index.site, &index.catalogue, &body, payload) {
+        Ok(content) => content,
+        Err(refusal) => return Err(refusal),
+    };
+    let bytes = content.bytes();
+    let image = whole_of(body, bytes.len() as u64, moment);
+    match seal(alloc, index, end, image, bytes) {
         Ok(staged) => Ok(Ready { staged, body: line }),
         Err(_) => Err(Answer::OutOfMemory),
     }

@@ -2,6 +2,7 @@
 #![tactic(auto)]
 
 mod backup;
+mod chain;
 mod change;
 mod desk;
 mod extents;

@@ -46,6 +46,6 @@ pub fn prepare(
         ByClass::SiteChange(_) => prepare_change(alloc, index, request),
         ByClass::SiteFile => prepare_load(alloc, index, request, payload, moment),
         ByClass::Backup { .. } => prepare_backup(alloc, index, end, request, payload, moment),
-        ByClass::Restore { .. } => unreachable!(), // A restore writes nothing.
+        ByClass::Restore { .. } | ByClass::RestoreAt { .. } => unreachable!(), // A restore writes nothing.
     }
 }

@@ -5,9 +5,10 @@ ghost use Rattle.site_types.specs.Classes.{class_of, restore};
 ghost use Rattle.site_types.specs.Limits.{last_moment, payload_limit};
 ghost use Rattle.site_types.specs.Lines.{IsFormed};
 ghost use Rattle.site_desk.specs.Stands.{Standing, Between};
-ghost use Rattle.site_desk.specs.Desk.{Answered, Moved, reached, IsOfStep, IsOfRequest, IsRefusal};
+ghost use Rattle.site_desk.specs.Desk.{Answered, Moved, reached, IsOfStep, IsOfRequest, IsRefusal, reads_first};
 ghost use Rattle.site_desk.specs.Steps.{is_written, Steps};
 
+use crate::chain::{given_back, locate_chain, read_images};
 use crate::desk::Desk;
 use crate::prepare::prepare;
 use crate::record::write_record;
@@ -28,7 +29,8 @@ impl<V: Vault> Desk<V> {
         ensures answers { (V.disk self.old.vault).tells → Answered self.old.state request.now payload.now moment result }
         ensures kinds { IsOfRequest request.now payload.now result }
         ensures moves { (V.disk self.old.vault).tells → Moved self.old.state request.now payload.now moment result self.new.state }
-        ensures refused { IsRefusal result → self.new ≡ self.old }
+        // A restore of a moment may have read its images by then.
+        ensures refused { IsRefusal result → reads_first request.now ≡ false → self.new ≡ self.old }
         ensures running { result ≢ Answer.DiskFault → self.new.stopped ≡ false }
         ensures stopped { result ≡ Answer.DiskFault → self.new.stopped ≡ true }
         ensures failed { result ≡ Answer.DiskFault → Rose (V.disk self.old.vault).faults (V.disk self.new.vault).faults }
@@ -38,6 +40,7 @@ impl<V: Vault> Desk<V> {
     {
         match request.by_class() {
             ByClass::Restore { id, copy: _ } => self.restore(alloc, request, id, payload, moment),
+            ByClass::RestoreAt { .. } => self.restore_at(alloc, request, payload, moment),
             ByClass::SiteChange(_) | ByClass::SiteFile | ByClass::Backup { .. } => {
                 self.record(alloc, request, payload, moment)
             }
@@ -103,6 +106,42 @@ impl<V: Vault> Desk<V> {
             .read_bytes(alloc, &mut self.vault, found.from, found.length)
         {
             Ok(body) => Answer::Done { body },
+            Err(JournalFault::NoMemory) => Answer::OutOfMemory,
+            Err(JournalFault::DiskFault) => {
+                self.stopped = true;
+                Answer::DiskFault
+            }
+            Err(JournalFault::NotAVault { .. }) => unreachable!(),
+        }
+    }
+}
+
+impl<V: Vault> Desk<V> {
+    // The tree of a chain of images, or the latest image's bytes.
+    fn restore_at(
+        &mut self,
+        alloc: Global,
+        request: &Request,
+        payload: &[u8],
+        moment: u64,
+    ) -> Answer
+        requires running { self.old.stopped ≡ false }
+        requires restore { reads_first request.now ≡ true }
+        requires formed { IsFormed request.now }
+        requires moment { moment ≤ last_moment }
+        ensures steps { (V.disk self.old.vault).tells → Steps self.old.state request.now payload.now moment result (V.disk self.old.vault) (V.disk self.new.vault) self.new.state }
+        ensures kinds { IsOfStep result }
+        ensures running { result ≢ Answer.DiskFault → self.new.stopped ≡ false }
+        ensures stopped { result ≡ Answer.DiskFault → self.new.stopped ≡ true }
+        ensures failed { result ≡ Answer.DiskFault → Rose (V.disk self.old.vault).faults (V.disk self.new.vault).faults }
+        ensures same { IsSame (V.disk self.old.vault) (V.disk self.new.vault) }
+    {
+        let places = match locate_chain(alloc, &self.index, request, payload, moment) {
+            Ok(places) => places,
+            Err(refusal) => return refusal,
+        };
+        match read_images(alloc, &self.journal, &mut self.vault, &places.extents) {
+            Ok(images) => given_back(alloc, places.files, images),
             Err(JournalFault::NoMemory) => Answer::OutOfMemory,
             Err(JournalFault::DiskFault) => {
                 self.stopped = true;

@@ -1,0 +1,50 @@
+-- Images that are read one after another.
+use Rattle.std.proofs.Common.{◌≡◌, ◌<◌, ◌+◌, ◌∙◌, ℕ, zero, suc, List, [], ◌∷◌, ◌++◌, length, map, take, drop, Some, Result, Ok, Err, refl, sym, ap, arith, get_or}
+use Rattle.image_kinds.specs.Reading.{image_in}
+use Rattle.image_kinds.specs.declared.entry.Item.{Item}
+use Rattle.pool_journal.specs.Records.{Found}
+use Rattle.desk_model.specs.Restores.{image_before, images_in}
+use Rattle.site_desk.specs.Chains.{AreKept, StandThere}
+use Rattle.site_desk.specs.declared.extents.Extent.{Extent}
+
+-- The bytes of the images, of which each is that of its extent.
+
+pub kept_length : (records : List Found) (extents : List Extent) (chain : List (List ℕ)) → AreKept records extents chain → length extents ≡ length chain
+kept_length records [] [] kept = refl
+kept_length records [] (bytes ∷ chain) kept = absurd kept
+kept_length records (extent ∷ extents) [] kept = absurd kept
+kept_length records (extent ∷ extents) (bytes ∷ chain) kept = ap suc (kept_length records extents chain kept.1)
+
+pub kept_here : (records : List Found) (extents : List Extent) (chain : List (List ℕ)) (i : ℕ) (extent : Extent) (bytes : List ℕ) → AreKept records extents chain → i < length extents → StandThere records (get_or extents i extent) (get_or chain i bytes)
+kept_here records [] [] i extent bytes kept lt = absurd (omega arith)
+kept_here records [] (b ∷ chain) i extent bytes kept lt = absurd kept
+kept_here records (e ∷ extents) [] i extent bytes kept lt = absurd kept
+kept_here records (e ∷ extents) (b ∷ chain) zero extent bytes kept lt = kept.0
+kept_here records (e ∷ extents) (b ∷ chain) (suc i) extent bytes kept lt = kept_here records extents chain i extent bytes kept.1 (omega arith)
+
+-- The images that bytes spell, with one more.
+
+pub images_more : (front : List (List ℕ)) (bytes : List ℕ) (images : List (List Item)) (image : List Item) → images_in front ≡ Ok images → image_in bytes ≡ Ok image → images_in (front ++ bytes ∷ []) ≡ Ok (images ++ image ∷ [])
+images_more [] bytes images image front_is is = let none : [] ≡ images = cc front_is in (λ j. image_before (is j) (Ok [])) ∙ ap (λ (l : List (List Item)). Ok (l ++ image ∷ [])) none
+images_more (b ∷ front) bytes images image front_is is = at (image_in b) (images_in front) refl front_is (λ later made. images_more front bytes later image made is)
+  where
+    at : (first : Result (List Item) ℕ) (rest : Result (List (List Item)) ℕ) → images_in front ≡ rest → image_before first rest ≡ Ok images
+        → ((later : List (List Item)) → images_in front ≡ Ok later → images_in (front ++ bytes ∷ []) ≡ Ok (later ++ image ∷ []))
+        → image_before first (images_in (front ++ bytes ∷ [])) ≡ Ok (images ++ image ∷ [])
+    at (Err offset) rest rest_is made more = absurd (cc made)
+    at (Ok x) (Err offset) rest_is made more = absurd (cc made)
+    at (Ok x) (Ok later) rest_is made more =
+        let same : x ∷ later ≡ images = cc made in
+        ap (image_before (Ok x)) (more later rest_is) ∙ ap (λ (l : List (List Item)). Ok (l ++ image ∷ [])) same
+
+-- the first that are no image break
+pub images_break : (front : List (List ℕ)) (bytes : List ℕ) (back : List (List ℕ)) (images : List (List Item)) (offset : ℕ) → images_in front ≡ Ok images → image_in bytes ≡ Err offset → images_in (front ++ bytes ∷ back) ≡ Err offset
+images_break [] bytes back images offset front_is is = λ j. image_before (is j) (images_in back)
+images_break (b ∷ front) bytes back images offset front_is is = at (image_in b) (images_in front) refl front_is (λ later made. images_break front bytes back later offset made is)
+  where
+    at : (first : Result (List Item) ℕ) (rest : Result (List (List Item)) ℕ) → images_in front ≡ rest → image_before first rest ≡ Ok images
+        → ((later : List (List Item)) → images_in front ≡ Ok later → images_in (front ++ bytes ∷ back) ≡ Err offset)
+        → image_before first (images_in (front ++ bytes ∷ back)) ≡ Err offset
+    at (Err o) rest rest_is made more = absurd (cc made)
+    at (Ok x) (Err o) rest_is made more = absurd (cc made)
+    at (Ok x) (Ok later) rest_is made more = ap (image_before (Ok x)) (more later rest_is)
