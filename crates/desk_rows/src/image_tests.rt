@@ -35,16 +35,28 @@ fn spelled(alloc: Global, files: &[File]) -> Result<Vec<u8>, Fail> {
     Ok(out)
 }
 
-// The image of these files since the reference, written and read again.
-fn image(alloc: Global, files: &[File], reference: Option<u64>) -> Result<ImageBody, Fail> {
-    let stream = decode_stream(alloc, &spelled(alloc, files)?)
-        .ok()
-        .ok_or("a stream")?;
+// The image of these files since the reference, as it is written.
+fn image(alloc: Global, files: &[File], reference: Option<u64>) -> Result<Vec<u8>, Fail> {
+    let bytes = spelled(alloc, files)?;
+    let stream = decode_stream(alloc, &bytes).ok().ok_or("a stream")?;
     let mut selections = Vec::new(alloc);
     selections.push(Text::new(alloc, b"/")?)?;
     let made = make_image(alloc, &stream, &selections, reference)?;
-    let bytes = encode_image(alloc, &made)?;
-    Ok(decode_image(alloc, &bytes).ok().ok_or("an image")?)
+    Ok(encode_image(alloc, &made)?)
+}
+
+fn read(alloc: Global, bytes: &[u8]) -> Result<ImageBody<'_>, Fail> {
+    Ok(decode_image(alloc, bytes).ok().ok_or("an image")?)
+}
+
+// The tree of three images of a chain, as it is written.
+fn tree(alloc: Global, first: &[u8], second: &[u8], last: &[u8]) -> Result<Vec<u8>, Fail> {
+    let images = [
+        read(alloc, first)?,
+        read(alloc, second)?,
+        read(alloc, last)?,
+    ];
+    Ok(encode_stream(alloc, &merge_chain(alloc, &images)?)?)
 }
 
 // The files of three days, and the week of a full, a cumulative and a differential backup of them.
@@ -60,12 +72,10 @@ const LAST: [File<'static>; 2] = [(b"/a", 1500, b"A2"), (b"/c", 3500, b"C2")];
 
 #[test]
 fn a_week_is_restored(rt: HostRuntime) -> Result<(), Fail> {
-    let mut images = Vec::new(rt.alloc());
-    images.push(image(rt.alloc(), &FULL, None)?)?;
-    images.push(image(rt.alloc(), &CUMULATIVE, Some(1000))?)?;
-    images.push(image(rt.alloc(), &LAST, Some(3000))?)?;
-    assert!(rt; !images.is_empty());
-    let tree = encode_stream(rt.alloc(), &merge_chain(rt.alloc(), &images)?)?;
+    let full = image(rt.alloc(), &FULL, None)?;
+    let cumulative = image(rt.alloc(), &CUMULATIVE, Some(1000))?;
+    let last = image(rt.alloc(), &LAST, Some(3000))?;
+    let tree = tree(rt.alloc(), &full, &cumulative, &last)?;
     assert_eq!(rt; tree.as_slice(), TREE.as_slice());
     Ok(())
 }

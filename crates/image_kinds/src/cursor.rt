@@ -4,11 +4,11 @@ ghost use Rattle.site_types.specs.Fields.{borrowed};
 ghost use Rattle.image_kinds.specs.Streams.{letters_of};
 ghost use Rattle.image_kinds.specs.Fields.{letters_at, path_length_at, path_bytes_at, path_at, content_at, entry_at, end_at, taken_at, kept_at, tagged_at, item_at, IsRead, IsAfter};
 
+use crate::bytes::Bytes;
 use crate::entry::{Entry, Item};
 use crate::format::Format;
 use crate::path::{follows, is_path_length};
-use site_types::{FieldFault, Fields, Text};
-use std::alloc::Global;
+use site_types::{FieldFault, Fields};
 use std::marker::Model;
 
 // The bytes that are still to be read.
@@ -72,28 +72,28 @@ impl<'a> Cursor<'a> {
     }
 
     // A path that stands behind a last one.
-    fn path(&mut self, alloc: Global, last: &[u8]) -> Result<Text, FieldFault>
+    fn path(&mut self, last: &[u8]) -> Result<Bytes<'a>, FieldFault>
         ensures { IsRead result (path_at last.now self.old) self.new }
     {
         let count = self.path_length()?;
         let path = self.path_bytes(last, count)?;
-        Ok(Text::new(alloc, path)?)
+        Ok(Bytes::new(path))
     }
 
-    fn content(&mut self, alloc: Global) -> Result<Text, FieldFault>
+    fn content(&mut self) -> Result<Bytes<'a>, FieldFault>
         ensures { IsRead result (content_at self.old) self.new }
     {
         let count = self.fields.long()?;
         let content = self.fields.bytes(count)?;
-        Ok(Text::new(alloc, content)?)
+        Ok(Bytes::new(content))
     }
 
-    fn entry(&mut self, alloc: Global, last: &[u8]) -> Result<Entry, FieldFault>
+    fn entry(&mut self, last: &[u8]) -> Result<Entry<'a>, FieldFault>
         ensures { IsRead result (entry_at last.now self.old) self.new }
     {
-        let path = self.path(alloc, last)?;
+        let path = self.path(last)?;
         let time = self.fields.long()?;
-        let content = self.content(alloc)?;
+        let content = self.content()?;
         Ok(Entry {
             path,
             time,
@@ -102,7 +102,7 @@ impl<'a> Cursor<'a> {
     }
 
     // Nothing, where nothing is left.
-    fn end(&mut self) -> Result<Option<Item>, FieldFault>
+    fn end(&mut self) -> Result<Option<Item<'a>>, FieldFault>
         ensures { IsRead result (end_at self.old) self.new }
     {
         let left = self.fields.rest().len();
@@ -112,34 +112,29 @@ impl<'a> Cursor<'a> {
         Ok(None)
     }
 
-    fn taken(&mut self, alloc: Global, last: &[u8]) -> Result<Option<Item>, FieldFault>
+    fn taken(&mut self, last: &[u8]) -> Result<Option<Item<'a>>, FieldFault>
         ensures { IsRead result (taken_at last.now self.old) self.new }
     {
-        let entry = self.entry(alloc, last)?;
+        let entry = self.entry(last)?;
         Ok(Some(Item::Taken(entry)))
     }
 
-    fn kept(&mut self, alloc: Global, last: &[u8]) -> Result<Option<Item>, FieldFault>
+    fn kept(&mut self, last: &[u8]) -> Result<Option<Item<'a>>, FieldFault>
         ensures { IsRead result (kept_at last.now self.old) self.new }
     {
-        let path = self.path(alloc, last)?;
+        let path = self.path(last)?;
         Ok(Some(Item::Kept(path)))
     }
 
     // The next item behind one with a last path, and None at the end.
-    pub fn item(
-        &mut self,
-        alloc: Global,
-        format: Format,
-        last: &[u8],
-    ) -> Result<Option<Item>, FieldFault>
+    pub fn item(&mut self, format: Format, last: &[u8]) -> Result<Option<Item<'a>>, FieldFault>
         ensures { IsRead result (item_at format last.now self.old) self.new }
     {
         let left = self.fields.rest().len();
         match self.fields.byte()? {
             0 => self.end(),
-            1 => self.taken(alloc, last),
-            2 if format.keeps() => self.kept(alloc, last),
+            1 => self.taken(last),
+            2 if format.keeps() => self.kept(last),
             _ => Err(FieldFault::Broken(left)),
         }
     }

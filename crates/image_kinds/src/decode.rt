@@ -1,6 +1,6 @@
 ghost use Rattle.std.specs.Prelude.{◌≡◌, ◌≤◌, ◌-◌, ℕ, List, length, map, IfOk, IfErr, Ok, Err};
 ghost use Rattle.std.specs.List.{filter_map};
-ghost use Rattle.image_kinds.specs.Streams.{taken_of, AreItems, IsStream, IsImage, spelled, spelled_stream, spelled_image, last_path, path_of, IsBad, Entry, Item, Format};
+ghost use Rattle.image_kinds.specs.Streams.{taken_of, AreItems, IsStream, IsImage, spelled, spelled_stream, spelled_image, last_path, IsBad, Entry, Item, Format};
 ghost use Rattle.image_kinds.specs.Decoding.{IsFault, IsStreamFault, IsReadAs};
 ghost use Rattle.image_kinds.specs.Reading.{AreBytes, stream_in, image_in, IsReading};
 ghost use Rattle.image_kinds.specs.declared.format.Format.TheVariants as format;
@@ -29,19 +29,8 @@ impl From<NoMemory> for StreamFault {
     }
 }
 
-impl Item {
-    pub fn path(&self) -> &[u8]
-        ensures { result.now ≡ path_of self.now }
-    {
-        match self {
-            Item::Taken(entry) => entry.path.bytes(),
-            Item::Kept(path) => path.bytes(),
-        }
-    }
-}
-
 // The path of the last item, and no bytes where there is none.
-fn last_path(items: &[Item]) -> &[u8]
+fn last_path<'a>(items: &[Item<'a>]) -> &'a [u8]
     ensures { result.now ≡ last_path items.now }
 {
     match items.last() {
@@ -51,20 +40,24 @@ fn last_path(items: &[Item]) -> &[u8]
 }
 
 // The items that these bytes spell.
-fn read_items(alloc: Global, format: Format, bytes: &[u8]) -> Result<Vec<Item>, FieldFault>
+fn read_items<'a>(
+    alloc: Global,
+    format: Format,
+    bytes: &'a [u8],
+) -> Result<Vec<Item<'a>>, FieldFault>
     ensures found { IfOk result (λ v. AreItems format v.items × (bytes.now ≡ spelled format v.items)) }
     ensures fault { IfErr result (IsFault format bytes.now) }
 {
     let mut cursor = Cursor::new(bytes);
     cursor.letters(format)?;
     let mut items = Vec::new(alloc);
-    while let Some(item) = cursor.item(alloc, format, last_path(&items))? {
+    while let Some(item) = cursor.item(format, last_path(&items))? {
         items.push(item)?;
     }
     Ok(items)
 }
 
-fn decode(alloc: Global, format: Format, bytes: &[u8]) -> Result<Vec<Item>, StreamFault>
+fn decode<'a>(alloc: Global, format: Format, bytes: &'a [u8]) -> Result<Vec<Item<'a>>, StreamFault>
     ensures found { IfOk result (λ v. AreItems format v.items × (bytes.now ≡ spelled format v.items)) }
     ensures fault { IfErr result (IsStreamFault format bytes.now) }
 {
@@ -77,8 +70,8 @@ fn decode(alloc: Global, format: Format, bytes: &[u8]) -> Result<Vec<Item>, Stre
     }
 }
 
-fn entry_in(item: Item) -> Option<Entry>
-    ensures { result ≡ taken_of item }
+fn entry_in(item: Item<'_>) -> Option<Entry<'_>>
+    ensures { result ≡ taken_of item.entry }
 {
     match item {
         Item::Taken(entry) => Some(entry),
@@ -87,13 +80,13 @@ fn entry_in(item: Item) -> Option<Entry>
 }
 
 // The entries that these items took, which are moved.
-fn entries_in(alloc: Global, items: Vec<Item>) -> Result<Vec<Entry>, NoMemory>
-    ensures { IfOk result (λ v. v.items ≡ filter_map taken_of items.items) }
+fn entries_in<'a>(alloc: Global, items: Vec<Item<'a>>) -> Result<Vec<Entry<'a>>, NoMemory>
+    ensures { IfOk result (λ v. v.items ≡ filter_map taken_of items.entry.items) }
 {
     items.into_iter().filter_map(entry_in).collect(alloc)
 }
 
-fn read_stream(alloc: Global, bytes: &[u8]) -> Result<Stream, StreamFault>
+fn read_stream(alloc: Global, bytes: &[u8]) -> Result<Stream<'_>, StreamFault>
     ensures found { IfOk result (λ s. IsStream s × (bytes.now ≡ spelled_stream s)) }
     ensures fault { IfErr result (IsStreamFault format.Stream bytes.now) }
 {
@@ -101,16 +94,16 @@ fn read_stream(alloc: Global, bytes: &[u8]) -> Result<Stream, StreamFault>
     Ok(Stream::new(entries_in(alloc, items)?))
 }
 
-fn read_image(alloc: Global, bytes: &[u8]) -> Result<ImageBody, StreamFault>
+fn read_image(alloc: Global, bytes: &[u8]) -> Result<ImageBody<'_>, StreamFault>
     ensures found { IfOk result (λ i. IsImage i × (bytes.now ≡ spelled_image i)) }
     ensures fault { IfErr result (IsStreamFault format.Image bytes.now) }
 {
     Ok(ImageBody::new(decode(alloc, Format::Image, bytes)?))
 }
 
-/// The stream that these bytes spell.
+/// The stream that these bytes spell. Its paths and contents lie in them.
 #[tactic(auto, using(crate::proofs::Values::only_stream, crate::proofs::Readings::stream_reading))]
-pub fn decode_stream(alloc: Global, bytes: &[u8]) -> Result<Stream, StreamFault>
+pub fn decode_stream<'a>(alloc: Global, bytes: &'a [u8]) -> Result<Stream<'a>, StreamFault>
     // What is read is spelled so, each byte of it.
     ensures found { IfOk result (λ s. IsStream s × (bytes.now ≡ spelled_stream s)) }
 
@@ -126,9 +119,9 @@ pub fn decode_stream(alloc: Global, bytes: &[u8]) -> Result<Stream, StreamFault>
     read_stream(alloc, bytes)
 }
 
-/// The image that these bytes spell.
+/// The image that these bytes spell. Its paths and contents lie in them.
 #[tactic(auto, using(crate::proofs::Values::only_image, crate::proofs::Readings::image_reading))]
-pub fn decode_image(alloc: Global, bytes: &[u8]) -> Result<ImageBody, StreamFault>
+pub fn decode_image<'a>(alloc: Global, bytes: &'a [u8]) -> Result<ImageBody<'a>, StreamFault>
     // What is read is spelled so, each byte of it.
     ensures found { IfOk result (λ i. IsImage i × (bytes.now ≡ spelled_image i)) }
 

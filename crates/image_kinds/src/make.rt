@@ -5,7 +5,7 @@ ghost use Rattle.image_kinds.specs.Images.{is_above, selects, is_selected, item_
 use crate::entry::{Entry, Item};
 use crate::path::begins_with_slash;
 use crate::stream::{ImageBody, Stream};
-use site_types::{Copied, NoMemory, Text};
+use site_types::{NoMemory, Text};
 use std::alloc::Global;
 
 // Whether a selection is followed in a path by a slash.
@@ -38,35 +38,29 @@ fn was_before(time: u64, reference: Option<u64>) -> bool
     }
 }
 
-fn made_item(alloc: Global, entry: &Entry, reference: Option<u64>) -> Result<Item, NoMemory>
-    ensures { IfOk result (λ i. i ≡ item_made reference entry.now) }
+fn made_item<'a>(entry: &Entry<'a>, reference: Option<u64>) -> Item<'a>
+    ensures { result ≡ item_made reference entry.now }
 {
-    let path = entry.path.copy(alloc)?;
     if was_before(entry.time, reference) {
-        return Ok(Item::Kept(path));
+        return Item::Kept(entry.path.again());
     }
-    let content = entry.content.copy(alloc)?;
-    Ok(Item::Taken(Entry {
-        path,
-        time: entry.time,
-        content,
-    }))
+    Item::Taken(entry.again())
 }
 
 /// The image of a stream: it names every path that a selection selects. It takes the files that were changed at or after the reference, in seconds since 1970-01-01T00:00:00Z, or all where there is none, and keeps the others.
-pub fn make_image(
+pub fn make_image<'a>(
     alloc: Global,
-    stream: &Stream,
+    stream: &Stream<'a>,
     selections: &[Text],
     reference: Option<u64>,
-) -> Result<ImageBody, NoMemory>
+) -> Result<ImageBody<'a>, NoMemory>
     ensures { IfOk result (λ i. i ≡ made selections.now reference stream.now) }
 {
     let entries = stream.entries();
-    let mut items = Vec::new(alloc);
+    let mut items = Vec::with_capacity(alloc, entries.len())?;
     for entry in entries {
         if is_selected(selections, entry.path.bytes()) {
-            items.push(made_item(alloc, entry, reference)?)?;
+            items.push(made_item(entry, reference))?;
         }
     }
     Ok(ImageBody::new(items))

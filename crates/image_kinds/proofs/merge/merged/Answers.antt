@@ -1,7 +1,7 @@
 use Rattle.image_kinds.proofs.Common.{arith, ◌++◌, [], ◌∷◌, ◌≡◌, ◌-◌, ◌∙◌, sym, ap, subst, Some, None, length, take, Option, append-nil, Entry, IsImage, entry_behind}
 use Rattle.std.specs.Global.{Vec}
 use Rattle.image_kinds.proofs.Chains.{merged_more, entries_more, merged_is, merged_all}
-use Rattle.image_kinds.proofs.merge.merged.Goals.{in-Some+in_ok-copy_of+in_ok-push, in_default-entry_behind}
+use Rattle.image_kinds.proofs.merge.merged.Goals.{in-Some+in_ok-push, in_default-entry_behind}
 use Rattle.image_kinds.proofs.merge.merged.Goals as goal
 
 pub loop-item-preserved : goal.loop-item-preserved
@@ -9,11 +9,11 @@ loop-item-preserved c =
     let h = entry_behind (take (length c.args.images.now - 1) c.args.images.now) in
     let step = λ (o : Option Entry) (gives : h c.item-item.result ≡ o). merged_more h c.items-items.result.now c.loop-item.item-index c.item-item.result o c.loop-item.entries.items c.loop-item-test.true c.item-item.is gives c.loop-item.invariant.found in
     elim c.match-entry_behind.branch [
-      | in-Some+in_ok-copy_of+in_ok-push w ↦
-          let pushed : c.match-entry_behind.entries.items ≡ c.loop-item.entries.items ++ w.in-Some.entry.now ∷ [] = ap (λ (v : Vec Entry). v.items) w.entries-is ∙ w.in_ok-push.ensures.items ∙ ap (λ (e : Entry). c.loop-item.entries.items ++ e ∷ []) w.in_ok-copy_of.ensures.same in
+      | in-Some+in_ok-push w ↦
+          let pushed : c.match-entry_behind.entries.items ≡ c.loop-item.entries.items ++ w.in-Some.entry.now ∷ [] = ap (λ (v : Vec Entry). v.items) w.entries-is ∙ w.in_ok-push.ensures.items ∙ ap (λ (e : Entry). c.loop-item.entries.items ++ e ∷ []) w.again.ensures.same in
           record {
             found = pushed ∙ step (Some w.in-Some.entry.now) (sym w.in-Some.ensures);
-            each = rw pushed (entries_more c.loop-item.entries.items w.in-Some.entry.now c.loop-item.invariant.each w.copy_of.ensures.entry);
+            each = rw pushed (entries_more c.loop-item.entries.items w.in-Some.entry.now c.loop-item.invariant.each w.again.ensures.entry);
           }
       | in_default-entry_behind w ↦
           let same : c.match-entry_behind.entries.items ≡ c.loop-item.entries.items = ap (λ (v : Vec Entry). v.items) w.entries-is in
