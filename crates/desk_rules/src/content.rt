@@ -106,7 +106,7 @@ fn made_content<'a>(
     Ok(Content::Image(encode_image(alloc, &image)?))
 }
 
-fn read_stream(alloc: Global, payload: &[u8]) -> Result<Stream, Refusal>
+fn read_stream(alloc: Global, payload: &[u8]) -> Result<Stream<'_>, Refusal>
     ensures passes { Passes ((is_some (result_err (stream_in payload.now)), answer.BadStream (unwrap_or (result_err (stream_in payload.now)) 0)) ∷ []) result }
     ensures stream { IfOk result (λ stream. stream_in payload.now ≡ Ok stream) }
     ensures spelled { IfOk result (λ stream. payload.now ≡ spelled_stream stream) }

@@ -1,5 +1,7 @@
 -- Images that are read one after another.
-use Rattle.std.proofs.Common.{◌≡◌, ◌<◌, ◌+◌, ◌∙◌, ℕ, zero, suc, List, [], ◌∷◌, ◌++◌, length, map, take, drop, Some, Result, Ok, Err, refl, sym, ap, arith, get_or}
+use Rattle.std.proofs.Common.{◌≡◌, ◌<◌, ◌+◌, ◌∙◌, ℕ, zero, suc, List, [], ◌∷◌, ◌++◌, length, map, take, drop, Some, Result, Ok, Err, refl, sym, ap, subst, arith, get_or}
+use Rattle.std.specs.Prelude.{Contains}
+use Rattle.std.proofs.lemmas.List.{drop_more, take-append-drop, take_all, take_more}
 use Rattle.image_kinds.specs.Reading.{image_in}
 use Rattle.image_kinds.specs.declared.entry.Item.{Item}
 use Rattle.pool_journal.specs.Records.{Found}
@@ -48,3 +50,30 @@ images_break (b ∷ front) bytes back images offset front_is is = at (image_in b
     at (Err o) rest rest_is made more = absurd (cc made)
     at (Ok x) (Err o) rest_is made more = absurd (cc made)
     at (Ok x) (Ok later) rest_is made more = ap (image_before (Ok x)) (more later rest_is)
+
+-- Lists that grow by what was read.
+
+pub read_more : (records : List Found) (extents : List Extent) (chain : List (List ℕ)) (i : ℕ) (extent : Extent) (images images' : List (List ℕ)) (bytes : List ℕ) → i < length extents → extent ≡ get_or extents i extent
+    → AreKept records extents chain → images ≡ take i chain → ((place : Found) → Contains records place → extent.from ≡ place.from → extent.length ≡ length place.is.bytes → bytes ≡ place.is.bytes)
+    → images' ≡ images ++ bytes ∷ [] → images' ≡ take (i + 1) chain
+read_more records extents chain i extent images images' bytes lt is kept so reads grows =
+    let here : StandThere records extent (get_or chain i bytes) = subst (λ (e : Extent). StandThere records e (get_or chain i bytes)) (sym is) (kept_here records extents chain i extent bytes kept lt) in
+    let inside : i < length chain = omega (arith, lt, kept_length records extents chain kept) in
+    grows ∙ (λ j. so j ++ (reads here.place here.among here.from here.size ∙ sym here.bytes_are) j ∷ []) ∙ sym (take_more chain i bytes inside)
+
+pub read_all : (records : List Found) (extents : List Extent) (chain : List (List ℕ)) (i : ℕ) (images : List (List ℕ)) → (i < length extents → ⊥) → AreKept records extents chain → images ≡ take i chain → images ≡ chain
+read_all records extents chain i images done kept so = so ∙ take_all i chain (let long = kept_length records extents chain kept in omega (arith, done, long))
+
+pub images_on : (all : List (List ℕ)) (i : ℕ) (bytes : List ℕ) (images images' : List (List Item)) (image : List Item) → i < length all → bytes ≡ get_or all i bytes → images_in (take i all) ≡ Ok images → image_in bytes ≡ Ok image → images' ≡ images ++ image ∷ [] → images_in (take (i + 1) all) ≡ Ok images'
+images_on all i bytes images images' image lt is so reads grows =
+    let next : take i all ++ bytes ∷ [] ≡ take (i + 1) all = ap (λ (b : List ℕ). take i all ++ b ∷ []) is ∙ sym (take_more all i bytes lt) in
+    ap images_in (sym next) ∙ images_more (take i all) bytes images image so reads ∙ ap (λ (l : List (List Item)). Ok l) (sym grows)
+
+pub images_stop : (all : List (List ℕ)) (i : ℕ) (bytes : List ℕ) (images : List (List Item)) (offset : ℕ) → i < length all → bytes ≡ get_or all i bytes → images_in (take i all) ≡ Ok images → image_in bytes ≡ Err offset → images_in all ≡ Err offset
+images_stop all i bytes images offset lt is so breaks =
+    let split : all ≡ take i all ++ bytes ∷ drop (i + 1) all =
+    sym (take-append-drop i all) ∙ ap (λ (l : List (List ℕ)). take i all ++ l) (drop_more all i bytes lt ∙ ap (λ (b : List ℕ). b ∷ drop (i + 1) all) (sym is)) in
+    ap images_in split ∙ images_break (take i all) bytes (drop (i + 1) all) images offset so breaks
+
+pub images_end : (all : List (List ℕ)) (i : ℕ) (images : List (List Item)) → (i < length all → ⊥) → images_in (take i all) ≡ Ok images → images_in all ≡ Ok images
+images_end all i images done so = ap images_in (sym (take_all i all (omega (arith, done)))) ∙ so

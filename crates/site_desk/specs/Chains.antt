@@ -4,6 +4,8 @@ use Rattle.site_types.specs.declared.answer.Answer.{Answer}
 use Rattle.site_types.specs.declared.answer.Answer.TheVariants.{Done, OutOfMemory, BadStream}
 use Rattle.site_types.specs.declared.id.BackupId.{BackupId}
 use Rattle.site_types.specs.declared.request.Request.{Request}
+use Rattle.image_kinds.specs.declared.decode.StreamFault.{StreamFault}
+use Rattle.image_kinds.specs.declared.decode.StreamFault.TheVariants.{Bad, NoMemory}
 use Rattle.vault_disk.specs.Disk.{Disk}
 use Rattle.vault_disk.specs.Steps.{Rose}
 use Rattle.pool_journal.specs.declared.fault.JournalFault.{JournalFault}
@@ -58,8 +60,9 @@ pub record ArePlaced (records : List Found) (s : State) (request : Request) (pay
   pub steps : step s request payload moment ≡ (answer_given (given_by places.files chain), s)
 
 -- what was read breaks there, or memory ran out
-abbrev pub IsBreak : {A : Type 0} → Result A ℕ → Answer → Type 0
-IsBreak reading answer = (answer ≡ OutOfMemory) ⊎ ((offset : ℕ) × (answer ≡ BadStream offset) × (reading ≡ Err offset))
+abbrev pub IsBroken : {A : Type 0} → Result A ℕ → StreamFault → Type 0
+IsBroken reading (Bad offset) = reading ≡ Err offset
+IsBroken reading NoMemory = Unit {0}
 
 -- it was answered with what is given, or memory ran out
 abbrev pub IsGiven : Result (List ℕ) ℕ → Answer → Type 0

@@ -1,18 +1,16 @@
 // The images that a restore of a moment reads, and what they give back.
-ghost use Rattle.std.specs.Prelude.{◌≡◌, ◌≤◌, ◌<◌, ℕ, List, length, map, true, Ok, Some, IfOk, IfErr, is_some, Contains};
+ghost use Rattle.std.specs.Prelude.{◌≡◌, ◌≤◌, ◌++◌, ℕ, List, [], ◌∷◌, map, true, Ok, Some, IfOk, IfErr, OnOk, is_some, Contains};
 ghost use Rattle.site_types.specs.Limits.{last_moment};
 ghost use Rattle.site_types.specs.Lines.{IsFormed};
 ghost use Rattle.site_types.specs.declared.id.BackupId.{BackupId as Id};
 ghost use Rattle.vault_disk.specs.Disk.{IsSame};
 ghost use Rattle.vault_disk.specs.Steps.{LookedAround};
-ghost use Rattle.image_kinds.specs.Reading.{image_in};
-ghost use Rattle.image_kinds.specs.Streams.{spelled_stream};
 ghost use Rattle.image_kinds.specs.Trees.{tree};
 ghost use Rattle.pool_journal.specs.Records.{Found};
 ghost use Rattle.pool_journal.specs.Stops.{AtRest};
 ghost use Rattle.desk_model.specs.Restores.{given_by, images_in, last_bytes, tree_spelled};
 ghost use Rattle.desk_model.specs.State.{Image, Stored};
-ghost use Rattle.site_desk.specs.Chains.{AreKept, ArePlaced, IsBreak, IsFailed, IsGiven, files_under, wanted};
+ghost use Rattle.site_desk.specs.Chains.{AreKept, ArePlaced, IsBroken, IsFailed, IsGiven, files_under, wanted};
 ghost use Rattle.site_desk.specs.Extents.{extent_of};
 ghost use Rattle.site_desk.specs.Index.{built, Remembers};
 ghost use Rattle.site_desk.specs.Desk.{reads_first};
@@ -144,7 +142,8 @@ pub fn given_back(alloc: Global, files: bool, images: Vec<Text>) -> Answer
     }
     match tree_of(alloc, &images) {
         Ok(body) => Answer::Done { body },
-        Err(answer) => answer,
+        Err(StreamFault::Bad { offset }) => Answer::BadStream { offset },
+        Err(StreamFault::NoMemory) => Answer::OutOfMemory,
     }
 }
 
@@ -157,26 +156,18 @@ fn last_of(alloc: Global, mut images: Vec<Text>) -> Text
     }
 }
 
-fn tree_of(alloc: Global, images: &[Text]) -> Result<Text, Answer>
+// The tree of the images that these bytes spell, as a stream.
+fn tree_of(alloc: Global, images: &[Text]) -> Result<Text, StreamFault>
     ensures tree { IfOk result (λ body. tree_spelled (images_in images.now) ≡ Ok body) }
-    ensures fault { IfErr result (IsBreak (tree_spelled (images_in images.now))) }
+    ensures fault { IfErr result (IsBroken (tree_spelled (images_in images.now))) }
 {
     let bodies = bodies_of(alloc, images)?;
-    match spelled_tree(alloc, &bodies) {
-        Ok(bytes) => Ok(Text::from_vec(bytes)),
-        Err(_) => Err(Answer::OutOfMemory),
-    }
-}
-
-fn spelled_tree(alloc: Global, bodies: &[ImageBody]) -> Result<Vec<u8>, NoMemory>
-    ensures { IfOk result (λ bytes. bytes.items ≡ spelled_stream (tree bodies.now)) }
-{
-    let stream = merged(alloc, bodies)?;
-    encode_stream(alloc, &stream)
+    let stream = merged(alloc, &bodies)?;
+    Ok(Text::from_vec(encode_stream(alloc, &stream)?))
 }
 
 // The tree of no images has no file.
-fn merged(alloc: Global, bodies: &[ImageBody]) -> Result<Stream, NoMemory>
+fn merged<'a>(alloc: Global, bodies: &[ImageBody<'a>]) -> Result<Stream<'a>, NoMemory>
     ensures { IfOk result (λ stream. stream ≡ tree bodies.now) }
 {
     if bodies.is_empty() {
@@ -185,28 +176,22 @@ fn merged(alloc: Global, bodies: &[ImageBody]) -> Result<Stream, NoMemory>
     merge_chain(alloc, bodies)
 }
 
-// The images that these bytes spell. The first that are no image are answered with where they break.
-fn bodies_of(alloc: Global, images: &[Text]) -> Result<Vec<ImageBody>, Answer>
+// The images that these bytes spell, or where the first of them break that spell none.
+fn bodies_of(alloc: Global, images: &[Text]) -> Result<Vec<ImageBody<'_>>, StreamFault>
     ensures bodies { IfOk result (λ bodies. images_in images.now ≡ Ok bodies.items) }
-    ensures fault { IfErr result (IsBreak (images_in images.now)) }
+    ensures fault { IfErr result (IsBroken (images_in images.now)) }
 {
     let mut bodies = Vec::new(alloc);
     for bytes in images {
-        let body = body_of(alloc, bytes.bytes())?;
-        if bodies.push(body).is_err() {
-            return Err(Answer::OutOfMemory);
-        }
+        let body = decode_image(alloc, bytes.bytes())?;
+        add(&mut bodies, body)?;
     }
     Ok(bodies)
 }
 
-fn body_of(alloc: Global, bytes: &[u8]) -> Result<ImageBody, Answer>
-    ensures body { IfOk result (λ body. image_in bytes.now ≡ Ok body) }
-    ensures fault { IfErr result (IsBreak (image_in bytes.now)) }
+fn add<'a>(bodies: &mut Vec<ImageBody<'a>>, body: ImageBody<'a>) -> Result<(), NoMemory>
+    ensures { OnOk result (bodies.new.items ≡ bodies.old.items ++ body.entry ∷ []) }
 {
-    match decode_image(alloc, bytes) {
-        Ok(body) => Ok(body),
-        Err(StreamFault::Bad { offset }) => Err(Answer::BadStream { offset }),
-        Err(StreamFault::NoMemory) => Err(Answer::OutOfMemory),
-    }
+    bodies.push(body)?;
+    Ok(())
 }

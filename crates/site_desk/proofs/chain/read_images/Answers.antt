@@ -1,27 +1,22 @@
-use Rattle.std.proofs.Common.{rules, ◌≡◌, ◌≤◌, ◌<◌, ℕ, List, length, map, true, Ok, Some, IfOk, IfErr, is_some, Contains, ◌+◌, ◌-◌, ◌*◌, ◌/◌, ◌%◌, Bool, false, nat_eq, nat_lt, [], ◌∷◌, ◌++◌, slice_index_or, slice_set, bit_and, bit_or, Fits, w8, w32, w64, Bor, MutBor}
-use Rattle.site_types.specs.Limits.{last_moment}
-use Rattle.site_types.specs.Lines.{IsFormed}
-use Rattle.site_types.specs.declared.id.BackupId.{BackupId as Id}
-use Rattle.vault_disk.specs.Disk.{IsSame}
-use Rattle.vault_disk.specs.Steps.{LookedAround}
-use Rattle.image_kinds.specs.Reading.{image_in}
-use Rattle.image_kinds.specs.Streams.{spelled_stream}
-use Rattle.image_kinds.specs.Trees.{tree}
+use Rattle.std.proofs.Common.{List, ℕ}
+use Rattle.vault_disk.proofs.Moments.{same_on}
 use Rattle.pool_journal.specs.Records.{Found}
-use Rattle.pool_journal.specs.Stops.{AtRest}
-use Rattle.desk_model.specs.Restores.{given_by, images_in, last_bytes, tree_spelled}
-use Rattle.desk_model.specs.State.{Image, Stored}
-use Rattle.site_desk.specs.Chains.{AreKept, ArePlaced, IsBreak, IsFailed, IsGiven, files_under, wanted}
-use Rattle.site_desk.specs.Extents.{extent_of}
-use Rattle.site_desk.specs.Index.{built, Remembers}
-use Rattle.site_desk.specs.Desk.{reads_first}
-use Rattle.site_desk.specs.Steps.{IsRefused, IsStepRefusal}
+use Rattle.site_desk.proofs.ChainImages.{read_all, read_more}
+use Rattle.site_desk.proofs.ChainReading.{looked_after}
 use Rattle.site_desk.proofs.chain.read_images.Goals as goal
 
--- src/chain.rt:130:5
 pub loop-extent-preserved : goal.loop-extent-preserved
-loop-extent-preserved g c = ?
+loop-extent-preserved g c =
+    let i = c.loop-extent.invariant in
+    record {
+      same = same_on i.same c.read_bytes.ensures.same;
+      looked = λ told. looked_after _ _ _ (i.looked told) (c.read_bytes.ensures.looked (i.same.tells told)) i.same;
+      rest = λ fs told at_rest. c.read_bytes.ensures.rest fs (i.same.tells told) (i.rest fs told at_rest);
+      read = λ fs chain told at_rest kept.
+          read_more fs c.args.extents.now chain c.loop-extent.extent-index c.extent-item.result c.loop-extent.images.items c.push.new.self.items c.in_ok-read_bytes.field-0 c.loop-extent-test.true c.extent-item.is kept (i.read fs chain told at_rest kept)
+          (λ place among from size. c.in_ok-read_bytes.ensures.bytes fs place (i.same.tells told) (i.rest fs told at_rest) among from size) c.in_ok-push.ensures.items;
+    }
 
--- src/chain.rt:118:1
 pub returns-clause-bytes : goal.returns-clause-bytes
-returns-clause-bytes g c = ?
+returns-clause-bytes g c fs chain told at_rest kept =
+    read_all fs c.args.extents.now chain c.loop-extent.extent-index c.loop-extent.images.items c.loop-extent-test.false kept (c.loop-extent.invariant.read fs chain told at_rest kept)
