@@ -17,7 +17,7 @@ use std::alloc::{AllocError, Global};
 use std::marker::{Brand, Model};
 use std::snapshot::Snapshot;
 use std::sync::Wait;
-use std::{mem, thread};
+use std::{hint, mem};
 
 /// Memory ran out.
 pub type NoMemory = AllocError;
@@ -188,7 +188,7 @@ impl<S: Steps> Turn<S> {
             if shared.peek(SERVING) != served {
                 return;
             }
-            thread::yield_now();
+            hint::spin_loop();
         }
         shared.park(rt, SERVING, (served % (1 << 32)) as u32);
     }
@@ -223,7 +223,7 @@ impl<S: Steps> Turn<S> {
             .fetch_add::<Advances<J>>(place, SERVING, 1);
     }
 
-    // Ends the turn with this call.
+    // Ends the turn with this call, and wakes the seats that sleep until it ends.
     fn advance<Q>(
         &self,
         place: &mut Place<S, S::Asked, S::Answer>,
@@ -238,6 +238,16 @@ impl<S: Steps> Turn<S> {
         ensures advanced { Advanced (Made S.meaning self.now.start place.old.me.0.seen (first_number place.old.me.0.chairs) (S.asks question.now) answer.now) place.old.me place.new.me }
     {
         self.advance_as::<Brand, Q>(place, question, answer);
+        self.wake();
+    }
+
+    // Wakes the seats that wait. A seat takes its ticket before it looks, so one that isn't counted here sees the ticket that is
+    // served now, and doesn't sleep on the one before.
+    fn wake(&self) {
+        let shared = &self.table.shared;
+        if shared.peek(TICKET) > shared.peek(SERVING) {
+            shared.wake_all(SERVING);
+        }
     }
 
     // Takes the object out of the slot.
