@@ -1,4 +1,4 @@
-ghost use Rattle.std.specs.Prelude.{◌≡◌, ◌+◌, ◌-◌, ◌^◌, ◌<◌, ◌≤◌, ◌++◌, ℕ, suc, List, Option, true, false, [], ◌∷◌, length, map, Some, None, IfOk, IfErr, OnOk, vec_capacity};
+ghost use Rattle.std.specs.Prelude.{◌≡◌, ◌+◌, ◌-◌, ◌^◌, ◌<◌, ◌≤◌, ◌++◌, ℕ, suc, List, Option, true, false, [], ◌∷◌, length, map, Some, None, All, IfOk, IfErr, OnOk, vec_capacity};
 ghost use Rattle.step_turn.specs.Seats.{TurnValue, AreNew, AreOf, IsSameSeat, Answered, Met, Closes, has_number, missing};
 ghost use Rattle.step_turn.specs.Histories.{call_count, Reaches, IsLegal, StartsWith, turn_of, made_by, Every};
 ghost use Rattle.step_turn.specs.Order.{HasChair, with_ticket, looked, Looked, Advanced, Adds, IsAdded, served, first_number, Made, making, IsIdle, Gathers};
@@ -67,6 +67,7 @@ impl<S: Steps> Turn<S> {
         requires seats { (1 ≤ seats) × (seats ≤ 64) }
         ensures turn { IfOk result (λ made. (made.0.start ≡ object) × (made.0.seats ≡ seats)) }
         ensures seats { IfOk result (λ made. (length made.1.items ≡ seats) × AreNew made.0.id 0 made.1.items) }
+        ensures of { IfOk result (λ made. All (λ seat. seat.turn ≡ made.0.id) made.1.items) }
         ensures back { IfErr result (λ refused. refused.0 ≡ object) }
     {
         let Ok(mut made) = Vec::with_capacity(alloc, seats as usize) else {
