@@ -1,6 +1,6 @@
 -- A turn that is made, its seats and notes, and joins keep the rule.
 use Rattle.std.proofs.Common.{◌≡◌, ◌≢◌, ℕ, zero, suc, ◌+◌, ◌-◌, ◌<◌, ◌==◌, ◌++◌, Bool, true, false, cond, List, [], ◌∷◌, length, set, refl, sym, ap, ◌∙◌, subst, inl, inr, ⊎_elim, arith, ltb, eq-eqb, ne_eqb, lit<}
-use Rattle.std.specs.Prelude.{Option, Some, None, slice_set}
+use Rattle.std.specs.Prelude.{Option, Some, None, All, slice_set}
 use mathlib.Core.Option.{some, some-ne-none, some-injective}
 use lib.ListN.{get_elem?}
 use Rattle.atomic_table.specs.Table.{State, Splits, Joins, opening}
@@ -302,3 +302,8 @@ module _ {Q A : Type 0} where
   pub are_new-push : (turn : TableId) (n : ℕ) (xs : List (SeatValue Q A)) (x : SeatValue Q A) → AreNew turn n xs → x ≡ record { number = n + length xs; seen = []; own = []; turn = turn } → AreNew turn n (xs ++ x ∷ [])
   are_new-push turn n [] x h e = (subst (λ k. x ≡ record { number = k; seen = []; own = []; turn = turn }) (omega arith) e, tt)
   are_new-push turn n (y ∷ ys) x h e = (h.0, are_new-push turn (suc n) ys x h.1 (subst (λ k. x ≡ record { number = k; seen = []; own = []; turn = turn }) (omega arith) e))
+
+  pub new_of_turn : (turn : TableId) (n : ℕ) (xs : List (SeatValue Q A)) → AreNew turn n xs → All (λ (x : SeatValue Q A). x.turn ≡ turn) xs
+  new_of_turn turn n [] new k d lt = absurd (omega (arith, lt))
+  new_of_turn turn n (x ∷ xs) new zero d lt = ap (λ y. y.turn) new.0
+  new_of_turn turn n (x ∷ xs) new (suc k) d lt = new_of_turn turn (suc n) xs new.1 k d (omega (arith, lt))

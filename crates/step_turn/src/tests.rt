@@ -1,7 +1,25 @@
-ghost use Rattle.std.specs.Prelude.{◌≡◌, false, IfOk};
+ghost use Rattle.std.specs.Prelude.{◌≡◌, false, All, IfOk};
 
-use crate::{Counted, Counter, Turn};
+use crate::{Counted, Counter, Seat, Turn};
+use std::alloc::{AllocError, Global};
+use std::sync::Wait;
 use std::test::Fail;
+use std::thread;
+use std::thread::Threads;
+
+const LIMIT: u64 = 1_000_000;
+
+const SEATS: u32 = 8;
+
+const CALLS: u64 = 1_000;
+
+// A call of the counter, as its caller saw it.
+#[derive(Drop)]
+struct Made {
+    number: u64,
+    amount: u64,
+    answer: Counted,
+}
 
 fn counter(rt: &HostRuntime, failing: &[u64], acts: bool) -> Result<Counter, Fail>
     ensures { IfOk result (λ c. c.stopped ≡ false) }
@@ -10,7 +28,7 @@ fn counter(rt: &HostRuntime, failing: &[u64], acts: bool) -> Result<Counter, Fai
     for call in failing {
         calls.push(*call)?;
     }
-    Ok(Counter::new(1_000_000, calls, acts))
+    Ok(Counter::new(LIMIT, calls, acts))
 }
 
 #[test]
@@ -58,5 +76,72 @@ fn a_call_fails_and_the_next_one_opens_again(rt: HostRuntime) -> Result<(), Fail
     let third = turn.call(&rt, rt.alloc(), &mut a, &1u64);
     assert!(rt; (first.number, second.number, third.number) == (1, 2, 3));
     assert!(rt; second.answer == Counted::Failed && third.answer == Counted::Now(13));
+    Ok(())
+}
+
+// Calls from one seat, with amounts that differ from call to call and from seat to seat.
+fn calls_from<R: Wait>(
+    rt: &R,
+    alloc: Global,
+    turn: &Turn<Counter>,
+    mut seat: Seat<u64, Counted>,
+) -> Result<Vec<Made>, AllocError>
+    requires { seat.turn ≡ turn.now.id }
+{
+    let mut made = Vec::new(alloc);
+    let first = seat.number() % 64;
+    for call in 0..CALLS {
+        let amount = (call * 7 + first * 31) % 320;
+        let receipt = turn.call(rt, alloc, &mut seat, &amount);
+        made.push(Made {
+            number: receipt.number,
+            amount,
+            answer: receipt.answer,
+        })?;
+    }
+    Ok(made)
+}
+
+// Calls from all seats, each in a thread of its own.
+fn calls_from_each<R: Threads + Wait + Sync>(
+    rt: &R,
+    alloc: Global,
+    turn: &Turn<Counter>,
+    seats: Vec<Seat<u64, Counted>>,
+) -> Result<Vec<Made>, AllocError>
+    requires { All (λ seat. seat.turn ≡ turn.now.id) seats.items }
+{
+    let mut made = Vec::new(alloc);
+    for calls in thread::map_vec(rt, seats, &|seat| calls_from(rt, alloc, turn, seat))? {
+        made.append(&mut calls?)?;
+    }
+    Ok(made)
+}
+
+#[test]
+fn eight_threads_with_a_thousand_calls_each(rt: HostRuntime) -> Result<(), Fail> {
+    let alloc = rt.alloc();
+    let Ok((turn, seats)) = Turn::new(alloc, counter(&rt, &[], false)?, SEATS) else {
+        panic!(rt; "no memory")
+    };
+    let mut made = calls_from_each(&rt, alloc, &turn, seats)?;
+    made.sort_by_key(|call| call.number)?;
+    assert_eq!(rt; made.len(), 8_000);
+    let mut count = 0u64;
+    let mut number = 0u64;
+    for call in &made {
+        number = number.saturating_add(1);
+        let sum = count.saturating_add(call.amount);
+        let answer = if sum <= LIMIT {
+            Counted::Now(sum)
+        } else {
+            Counted::AtLimit
+        };
+        if sum <= LIMIT {
+            count = sum;
+        }
+        assert_eq!(rt; call.number, number);
+        assert!(rt; call.answer == answer, "call {number}");
+    }
     Ok(())
 }

@@ -1,4 +1,4 @@
-ghost use Rattle.std.specs.Prelude.{◌≡◌, ◌+◌, ◌-◌, ◌^◌, ◌<◌, ◌≤◌, ◌++◌, ℕ, suc, List, Option, true, false, [], ◌∷◌, length, map, Some, None, IfOk, IfErr, OnOk, vec_capacity};
+ghost use Rattle.std.specs.Prelude.{◌≡◌, ◌+◌, ◌-◌, ◌^◌, ◌<◌, ◌≤◌, ◌++◌, ℕ, suc, List, Option, true, false, [], ◌∷◌, length, map, Some, None, All, IfOk, IfErr, OnOk, vec_capacity};
 ghost use Rattle.step_turn.specs.Seats.{TurnValue, AreNew, AreOf, IsSameSeat, Answered, Met, Closes, has_number, missing};
 ghost use Rattle.step_turn.specs.Histories.{call_count, Reaches, IsLegal, StartsWith, turn_of, made_by, Every};
 ghost use Rattle.step_turn.specs.Order.{HasChair, with_ticket, looked, Looked, Advanced, Adds, IsAdded, served, first_number, Made, making, IsIdle, Gathers};
@@ -17,7 +17,7 @@ use std::alloc::{AllocError, Global};
 use std::marker::{Brand, Model};
 use std::snapshot::Snapshot;
 use std::sync::Wait;
-use std::{mem, thread};
+use std::{hint, mem};
 
 /// Memory ran out.
 pub type NoMemory = AllocError;
@@ -67,6 +67,7 @@ impl<S: Steps> Turn<S> {
         requires seats { (1 ≤ seats) × (seats ≤ 64) }
         ensures turn { IfOk result (λ made. (made.0.start ≡ object) × (made.0.seats ≡ seats)) }
         ensures seats { IfOk result (λ made. (length made.1.items ≡ seats) × AreNew made.0.id 0 made.1.items) }
+        ensures of { IfOk result (λ made. All (λ seat. seat.turn ≡ made.0.id) made.1.items) }
         ensures back { IfErr result (λ refused. refused.0 ≡ object) }
     {
         let Ok(mut made) = Vec::with_capacity(alloc, seats as usize) else {
@@ -188,7 +189,7 @@ impl<S: Steps> Turn<S> {
             if shared.peek(SERVING) != served {
                 return;
             }
-            thread::yield_now();
+            hint::spin_loop();
         }
         shared.park(rt, SERVING, (served % (1 << 32)) as u32);
     }
@@ -223,7 +224,7 @@ impl<S: Steps> Turn<S> {
             .fetch_add::<Advances<J>>(place, SERVING, 1);
     }
 
-    // Ends the turn with this call.
+    // Ends the turn with this call, and wakes the seats that sleep until it ends.
     fn advance<Q>(
         &self,
         place: &mut Place<S, S::Asked, S::Answer>,
@@ -238,6 +239,16 @@ impl<S: Steps> Turn<S> {
         ensures advanced { Advanced (Made S.meaning self.now.start place.old.me.0.seen (first_number place.old.me.0.chairs) (S.asks question.now) answer.now) place.old.me place.new.me }
     {
         self.advance_as::<Brand, Q>(place, question, answer);
+        self.wake();
+    }
+
+    // Wakes the seats that wait. A seat takes its ticket before it looks, so one that isn't counted here sees the ticket that is
+    // served now, and doesn't sleep on the one before.
+    fn wake(&self) {
+        let shared = &self.table.shared;
+        if shared.peek(TICKET) > shared.peek(SERVING) {
+            shared.wake_all(SERVING);
+        }
     }
 
     // Takes the object out of the slot.
