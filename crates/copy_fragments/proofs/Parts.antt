@@ -1,13 +1,13 @@
 -- Parts of copies, and the bytes that they are.
-use Rattle.std.proofs.Common.{◌≡◌, inl, inr, ⊎_elim, ℕ, ◌+◌, ◌-◌, ◌*◌, ◌<◌, ◌≤◌, min, max, List, [], ◌++◌, length, take, drop, Some, refl, sym, ◌∙◌, ap, subst, arith, length-append, length-drop, Ok, Err}
-use Rattle.std.specs.Prelude.{Option, Result, IfErr, IfOk, OnOk, ◌⊎◌, slice_get}
+use Rattle.std.proofs.Common.{◌≡◌, inl, inr, ⊎_elim, ℕ, ◌+◌, ◌-◌, ◌*◌, ◌<◌, ◌≤◌, max, List, [], ◌++◌, length, take, drop, Some, refl, sym, ◌∙◌, ap, subst, arith, length-append, length-drop, Ok, Err}
+use Rattle.std.specs.Prelude.{Result, IfErr, IfOk, OnOk, ◌⊎◌, slice_get}
 use Rattle.std.proofs.Math.Nat.{mul-le-mul_right, mul_comm}
 use Rattle.std.proofs.Math.Seq.{take-add, take-append_seam}
 use Rattle.std.proofs.lemmas.Bool.{cases_lt}
 use Rattle.std.proofs.lemmas.List.{drop-drop, drop-take, length-take, take-take}
 use Rattle.vault_disk.specs.Disk.{Image}
 use Rattle.segment_pool.specs.Pieces.{pieces}
-use Rattle.segment_pool.specs.Placing.{HasPiece, IsWhole, bytes_in}
+use Rattle.segment_pool.specs.Placing.{IsWhole, bytes_in}
 use Rattle.segment_pool.specs.Slots.{PoolState, held}
 use Rattle.segment_pool.specs.declared.fault.ReadTrouble.{ReadTrouble}
 use Rattle.segment_pool.specs.declared.slot.Slot.{Slot}

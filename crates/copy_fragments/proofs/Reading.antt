@@ -1,21 +1,20 @@
 -- Reading a part of a copy piece by piece.
-use Rattle.std.proofs.Common.{◌≡◌, ⊎_elim, ℕ, ◌+◌, ◌-◌, ◌*◌, ◌<◌, ◌≤◌, min, List, ◌++◌, length, take, drop, Some, Ok, Err, refl, sym, ◌∙◌, ap, subst, arith}
-use Rattle.std.specs.Prelude.{Option, Result, IfOk, IfErr, OnOk, MatchResult, slice_get}
+use Rattle.std.proofs.Common.{◌≡◌, ⊎_elim, ℕ, ◌+◌, ◌*◌, ◌<◌, ◌≤◌, List, ◌++◌, length, take, drop, Ok, Err, refl, sym, ◌∙◌, ap, subst, arith}
+use Rattle.std.specs.Prelude.{Result, IfOk, IfErr, OnOk, MatchResult}
 use Rattle.std.proofs.lemmas.List.{length-take-le, take-take}
-use Rattle.std.proofs.lemmas.Slice.{take-put_mid, drop-put_mid}
+use Rattle.std.proofs.lemmas.Slice.{take-put_mid}
 use Rattle.std.proofs.Math.Seq.{take-append-add, take-append_seam}
 use borrow.Rule.Slice.PartMut.{put_mid}
 use Rattle.vault_disk.specs.Disk.{Image}
-use Rattle.segment_pool.specs.Pieces.{pieces}
 use Rattle.segment_pool.specs.Faults.{TroubleHolds, TroubleOf}
-use Rattle.segment_pool.specs.Placing.{HasPiece, IsDamaged, IsTruePool, IsWhole, bytes_in}
-use Rattle.segment_pool.specs.Slots.{PoolState, held}
+use Rattle.segment_pool.specs.Placing.{HasPiece, IsTruePool, bytes_in}
+use Rattle.segment_pool.specs.Slots.{PoolState}
 use Rattle.segment_pool.specs.declared.fault.ReadTrouble.{ReadTrouble}
 use Rattle.segment_pool.specs.declared.fault.ReadTrouble.TheVariants as trouble
 use Rattle.segment_pool.specs.declared.slot.Slot.{Slot}
 use Rattle.segment_pool.proofs.Troubles.{undamaged}
-use Rattle.copy_fragments.specs.Copies.{Copy, IsPart, IsPlaced, Meets, SomePiece, piece_length}
-use Rattle.copy_fragments.proofs.Parts.{joined, piece_of, piece_long, placed_spells}
+use Rattle.copy_fragments.specs.Copies.{Copy, IsPart, IsPlaced, SomePiece}
+use Rattle.copy_fragments.proofs.Parts.{joined, piece_of, placed_spells}
 
 -- what reads give is the same after a look
 pub same_image : (old new : Image) → ((f : ℕ) → new f ≡ old f) → new ≡ old

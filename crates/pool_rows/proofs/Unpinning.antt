@@ -1,6 +1,6 @@
 -- How often slots are pinned once one pin was taken away.
-use Rattle.std.proofs.Common.{◌≡◌, ℕ, ◌-◌, ◌<◌, ◌≤◌, ⊎_elim, Some, None, true, false, refl, sym, ◌∙◌, ap, subst, arith}
-use Rattle.std.specs.Prelude.{Bool, Option, if◌then◌else◌, ◌||◌, nat_lt}
+use Rattle.std.proofs.Common.{◌≡◌, ℕ, ◌-◌, ◌≤◌, ⊎_elim, Some, None, true, false, sym, ◌∙◌, ap, arith}
+use Rattle.std.specs.Prelude.{Bool, if◌then◌else◌, ◌||◌, nat_lt}
 use Rattle.std.proofs.lemmas.Bool.{cases_eq}
 use Rattle.segment_pool.specs.Slots.{Becomes, IsPinnedAtMost, PoolState, held, while_held}
 use Rattle.segment_pool.specs.declared.slot.Slot.{Slot}

@@ -1,6 +1,6 @@
 -- What a placing answers, where the search found no slot, and where it found one.
-use Rattle.std.proofs.Common.{◌≡◌, inl, inr, ⊎_elim, ℕ, ◌+◌, ◌*◌, ◌≤◌, List, length, Some, Ok, Err, refl, sym, ◌∙◌, ap, subst, arith}
-use Rattle.std.specs.Prelude.{Option, Result, IfOk, IfErr, OnOk, OnErr, ◌⊎◌}
+use Rattle.std.proofs.Common.{◌≡◌, inr, ℕ, ◌+◌, ◌*◌, ◌≤◌, List, length, Some, Ok, Err, sym, ◌∙◌, ap, subst, arith}
+use Rattle.std.specs.Prelude.{Result, IfOk, IfErr, OnOk, OnErr, ◌⊎◌}
 use Rattle.vault_disk.specs.Disk.{Image, Disk, IsSame}
 use Rattle.vault_disk.specs.Steps.{Changes, LookedAround, written}
 use Rattle.segment_pool.specs.declared.fault.PoolFault.{PoolFault}

@@ -1,14 +1,14 @@
 -- What a change of one slot, and free slots more, change of a pool.
-use Rattle.std.proofs.Common.{◌≡◌, ◌≢◌, ℕ, ◌+◌, ◌-◌, ◌*◌, ◌^◌, ◌<◌, ◌≤◌, inl, inr, ⊎_elim, List, ◌++◌, length, replicate, get_or, set, Some, None, true, false, refl, sym, ◌∙◌, ap, subst, arith, length-append}
-use Rattle.std.specs.Prelude.{Option, Bool, cond, is_some, IsSome, if◌then◌else◌, nat_le, nat_lt, ◌||◌}
+use Rattle.std.proofs.Common.{◌≡◌, ℕ, ◌+◌, ◌-◌, ◌^◌, ◌<◌, ◌≤◌, ⊎_elim, List, ◌++◌, length, replicate, set, Some, None, refl, sym, ◌∙◌, ap, subst, arith, length-append}
+use Rattle.std.specs.Prelude.{Option, cond, is_some, if◌then◌else◌, nat_le}
 use Rattle.std.specs.List.{count_by}
-use Rattle.std.proofs.lemmas.Bool.{cases_eq, cases_lt, lt-ltb, or_right}
+use Rattle.std.proofs.lemmas.Bool.{cases_eq, cases_lt}
 use Rattle.std.proofs.lemmas.Bool.Decides.{nat_tests}
 use Rattle.std.proofs.lemmas.List.{length-set, length-replicate, get_or_past}
 use Rattle.std.proofs.lemmas.List.Folds.{sum_by-replicate}
 use Rattle.std.proofs.lemmas.List.Sums.{sum_by-set, sum_by-append, count_by-le-length}
 use Rattle.segment_pool.specs.declared.slot.Slot.{Slot}
-use Rattle.segment_pool.specs.Slots.{PoolState, at_slot, held, number_held, spare, one_if_held, Becomes, IsAsBefore, while_held, AreSound, IsLowestFree, Placed, pinned_piece}
+use Rattle.segment_pool.specs.Slots.{PoolState, at_slot, number_held, one_if_held, Becomes, IsAsBefore, while_held, AreSound, IsLowestFree}
 use Rattle.segment_pool.proofs.Links.{at-set_same, at-set_other, at-grown}
 
 pub count_set : (t : List (Option Slot)) (s : ℕ) (x : Option Slot) → s < length t → count_by is_some (set t s x) + one_if_held (at_slot t s) ≡ count_by is_some t + one_if_held x
@@ -112,3 +112,17 @@ lowest_before p q s before low = record {
   free = sym (before.same s) ∙ low.free;
   lowest = λ t lt. ap is_some (sym (before.same t)) ∙ low.lowest t lt;
 }
+
+-- a slot was changed after free slots came
+pub becomes_after : (p q r : PoolState) (s : ℕ) (x : Option Slot) → IsAsBefore p q → Becomes q r s x → Becomes p r s x
+becomes_after p q r s x before now =
+    let one = ap one_if_held (before.same s) in
+    record {
+      file = now.file ∙ before.file;
+      size = now.size ∙ before.size;
+      slots = now.slots ∙ before.slots;
+      here = now.here;
+      elsewhere = λ t ne. now.elsewhere t ne ∙ before.same t;
+      number = omega (arith, now.number, before.number, one);
+      room = omega (arith, now.room, before.room, one);
+    }

@@ -1,12 +1,12 @@
 -- The search for a piece among the slots of its digest.
-use Rattle.std.proofs.Common.{◌≡◌, ◌≢◌, ℕ, ◌+◌, ◌-◌, ◌*◌, ◌<◌, ◌≤◌, inl, inr, ⊎_elim, List, ◌++◌, length, take, drop, Some, None, refl, sym, ◌∙◌, ap, subst, arith}
+use Rattle.std.proofs.Common.{◌≡◌, ◌≢◌, ℕ, ◌+◌, ◌*◌, ◌<◌, ⊎_elim, List, take, drop, Some, None, sym, ◌∙◌, ap, subst, arith}
 use Rattle.std.specs.Prelude.{Option, MatchOption}
-use Rattle.std.proofs.lemmas.Bool.{cases_lt, cases_order}
+use Rattle.std.proofs.lemmas.Bool.{cases_order}
 use Rattle.vault_disk.specs.Disk.{Image}
 use Rattle.segment_pool.specs.declared.slot.Slot.{Slot}
-use Rattle.segment_pool.specs.Slots.{PoolState, at_slot, held}
+use Rattle.segment_pool.specs.Slots.{PoolState}
 use Rattle.segment_pool.specs.Index.{leading_bits, bits_at, bits_of, IsNextBelow}
-use Rattle.segment_pool.specs.Placing.{bytes_in, HasPiece, LacksPiece, IsTruePool, IsDamaged, IsWhole}
+use Rattle.segment_pool.specs.Placing.{HasPiece, LacksPiece}
 
 -- a candidate and those below it
 abbrev pub rank : Option ℕ → ℕ

@@ -1,17 +1,17 @@
 -- What a placing leaves of a pool's file.
-use Rattle.std.proofs.Common.{◌≡◌, ◌≢◌, inl, inr, ⊎_elim, ℕ, ◌+◌, ◌-◌, ◌*◌, ◌<◌, ◌≤◌, min, max, List, [], ◌∷◌, ◌++◌, length, take, drop, replicate, Some, None, refl, sym, ◌∙◌, ap, subst, arith, length-append, length-drop, append_assoc}
-use Rattle.std.specs.Prelude.{Option, IsSome, is_some, Result, OnOk, Ok, Err}
+use Rattle.std.proofs.Common.{◌≡◌, ◌≢◌, ⊎_elim, ℕ, ◌+◌, ◌-◌, ◌*◌, ◌<◌, ◌≤◌, min, List, ◌++◌, length, take, drop, replicate, Some, None, refl, sym, ◌∙◌, ap, subst, arith, length-append, length-drop, append_assoc}
+use Rattle.std.specs.Prelude.{is_some, Result}
 use Rattle.std.proofs.Math.Nat.{mul_comm}
 use Rattle.std.proofs.lemmas.Bool.{cases_eq, cases_order}
 use Rattle.std.proofs.lemmas.List.{drop-take, take-take, drop-drop, length-take, length-replicate, take_at, drop_at}
 use Rattle.std.proofs.lemmas.Nat.{mul-add-lt}
-use Rattle.vault_disk.specs.Disk.{Image, Disk, During, IsSame, Now}
-use Rattle.vault_disk.specs.Steps.{Changes, Follows, LookedAround, Torn, Wrote, written}
-use Rattle.vault_disk.specs.MemoryLaws.{torn_same, written_torn}
-use Rattle.vault_disk.proofs.Moments.{goes_on, weaker, started}
+use Rattle.vault_disk.specs.Disk.{Image, Disk, IsSame, Now}
+use Rattle.vault_disk.specs.Steps.{Changes, LookedAround, Torn, Wrote, written}
+use Rattle.vault_disk.specs.MemoryLaws.{written_torn}
+use Rattle.vault_disk.proofs.Moments.{goes_on, weaker}
 use Rattle.segment_pool.specs.declared.slot.Slot.{Slot}
-use Rattle.segment_pool.specs.Slots.{PoolState, at_slot, held, AreSound, Becomes, IsLowestFree, Matches, PinnedAgain, Placed, pinned_piece}
-use Rattle.segment_pool.specs.Placing.{bytes_in, IsWhole, HasPiece, LacksPiece, IsTruePool, KeepsPieces, Touches, TornIn}
+use Rattle.segment_pool.specs.Slots.{PoolState, held, AreSound, Becomes, IsLowestFree, PinnedAgain, Placed, pinned_piece}
+use Rattle.segment_pool.specs.Placing.{bytes_in, HasOwnBytes, HasPiece, LacksPiece, IsTruePool, KeepsPieces, Touches, TornIn}
 
 part_of_front : (j k m : ℕ) (xs : List ℕ) → j + k ≤ m → take k (drop j (take m xs)) ≡ take k (drop j xs)
 part_of_front j k m xs le =
@@ -180,6 +180,33 @@ module _ (digest_of : List ℕ → List ℕ) (old new : PoolState) (slot : ℕ) 
             (λ t_ne. let was' = elsewhere t y at_t t_ne in true_pool.distinct s t x y was was' (sym (bytes s x was) ∙ equal ∙ bytes t y was')) (cases_eq t slot))
             (cases_eq s slot);
       }
+
+-- a slot of its own bytes becomes held
+pub own_true : (digest_of : List ℕ → List ℕ) (old new : PoolState) (image : Image) (slot : ℕ) (what : Slot) → Becomes old new slot (Some what) → IsTruePool digest_of old image → HasOwnBytes digest_of old image slot what → IsTruePool digest_of new image
+own_true digest_of old new image slot what now true_pool own =
+    let bytes : (t k : ℕ) → bytes_in new image t k ≡ bytes_in old image t k = λ t k. (λ i. take k (drop (t * now.size i) (image (now.file i)))) in
+    let here : (t : ℕ) (x : Slot) → held new t ≡ Some x → t ≡ slot → x ≡ what = λ t x is_held eq. let e = now.here in let f = ap (λ (k : ℕ). held new k) (sym eq) ∙ is_held in cc (e, f) in
+    let here_bytes : (t : ℕ) (x : Slot) → held new t ≡ Some x → t ≡ slot → bytes_in new image t x.length ≡ bytes_in old image slot what.length = λ t x is_held eq.
+    (λ i. bytes_in new image (eq i) (here t x is_held eq i).length) ∙ bytes slot what.length in
+    let elsewhere : (t : ℕ) (x : Slot) → held new t ≡ Some x → t ≢ slot → held old t ≡ Some x = λ t x is_held ne. sym (now.elsewhere t ne) ∙ is_held in
+    record {
+      whole = λ t x is_held. ⊎_elim
+          (λ eq.
+          let x_is = here t x is_held eq in
+          let all = here_bytes t x is_held eq in
+          record { length_is = ap length all ∙ own.whole.length_is ∙ ap (λ (y : Slot). y.length) (sym x_is); digest_is = ap digest_of all ∙ own.whole.digest_is ∙ ap (λ (y : Slot). y.digest) (sym x_is) })
+          (λ ne.
+          let w = true_pool.whole t x (elsewhere t x is_held ne) in
+          record { length_is = ap length (bytes t x.length) ∙ w.length_is; digest_is = ap digest_of (bytes t x.length) ∙ w.digest_is })
+          (cases_eq t slot);
+      distinct = λ s t x y at_s at_t equal. ⊎_elim
+          (λ s_is. ⊎_elim (λ t_is. s_is ∙ sym t_is)
+          (λ t_ne. absurd (own.alone t y (elsewhere t y at_t t_ne) (sym (bytes t y.length) ∙ sym equal ∙ here_bytes s x at_s s_is))) (cases_eq t slot))
+          (λ s_ne. ⊎_elim
+          (λ t_is. absurd (own.alone s x (elsewhere s x at_s s_ne) (sym (bytes s x.length) ∙ equal ∙ here_bytes t y at_t t_is)))
+          (λ t_ne. true_pool.distinct s t x y (elsewhere s x at_s s_ne) (elsewhere t y at_t t_ne) (sym (bytes s x.length) ∙ equal ∙ bytes t y.length)) (cases_eq t slot))
+          (cases_eq s slot);
+    }
 
 -- there is one lowest free slot
 pub one_lowest : (pool : PoolState) (s t : ℕ) → IsLowestFree pool s → IsLowestFree pool t → s ≡ t

@@ -1,16 +1,13 @@
 -- Where the lowest free slot may be, as the slots change.
-use Rattle.std.proofs.Common.{◌≡◌, ◌≢◌, ℕ, ◌+◌, ◌-◌, ◌*◌, ◌/◌, ◌<◌, ◌≤◌, min, inl, inr, ⊎_elim, List, [], ◌∷◌, ◌++◌, length, replicate, get_or, set, Some, None, true, suc, zero, refl, sym, ◌∙◌, ap, subst, arith}
-use Rattle.std.specs.Prelude.{Option, MatchOption, cond, is_some, IsSome, slice_index}
+use Rattle.std.proofs.Common.{◌≡◌, ℕ, ◌-◌, ◌<◌, List, [], ◌∷◌, length, set, Some, None, suc, refl, ◌∙◌, ap, subst, arith}
+use Rattle.std.specs.Prelude.{Option, MatchOption, cond, is_some, IsSome}
 use Rattle.std.specs.List.{count_by}
-use Rattle.std.proofs.lemmas.Bool.{cases_eq}
-use Rattle.std.proofs.lemmas.List.{get_or-set_same, get_or-set_other}
 use Rattle.std.proofs.lemmas.List.Sums.{sum_by-cons}
 use Rattle.segment_pool.specs.declared.slot.Slot.{Slot}
 use Rattle.segment_pool.specs.Slots.{at_slot, one_if_held}
 use Rattle.segment_pool.specs.Index.{bits_at, bits_of}
-use Rattle.segment_pool.specs.Free.{Sweeps}
 use Rattle.segment_pool.proofs.Changes.{count_set}
-use Rattle.segment_pool.proofs.Links.{at-set_same, at-set_other, at-grown, within_bits}
+use Rattle.segment_pool.proofs.Links.{within_bits}
 
 -- where each slot is held, so many are held
 pub all_held : (t : List (Option Slot)) → ((u : ℕ) → u < length t → IsSome (at_slot t u)) → count_by is_some t ≡ length t

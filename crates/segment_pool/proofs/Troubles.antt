@@ -1,19 +1,18 @@
 -- What a read of a slot tells.
-use Rattle.std.proofs.Common.{◌≡◌, ◌≢◌, inl, inr, ⊎_elim, ℕ, ◌*◌, ◌<◌, ◌≤◌, List, length, take, drop, Some, refl, sym, ◌∙◌, ap, subst, arith}
+use Rattle.std.proofs.Common.{◌≡◌, ◌≢◌, ⊎_elim, ℕ, List, length, Some, refl, sym, ◌∙◌, ap, subst, arith}
 use Rattle.std.proofs.Common.{Ok, Err, true, false}
 use Rattle.std.specs.Prelude.{Bool}
 use Rattle.std.specs.Str.{bytes_eq}
 use Rattle.std.proofs.lemmas.Slice.Eq.{bytes_eq-Decides}
-use Rattle.std.specs.Prelude.{Option, Result, IfErr}
+use Rattle.std.specs.Prelude.{Result, IfErr}
 use Rattle.vault_disk.specs.Disk.{Image}
 use Rattle.segment_pool.specs.declared.fault.PoolFault.{PoolFault}
-use Rattle.segment_pool.specs.declared.fault.PoolFault.TheVariants as fault
 use Rattle.segment_pool.specs.declared.fault.ReadTrouble.{ReadTrouble}
 use Rattle.segment_pool.specs.declared.fault.ReadTrouble.TheVariants as trouble
 use Rattle.segment_pool.specs.declared.slot.Slot.{Slot}
 use Rattle.segment_pool.specs.Slots.{PoolState, held}
-use Rattle.segment_pool.specs.Placing.{bytes_in, HasPiece, IsDamaged, IsTruePool, IsWhole, DiffersFrom}
-use Rattle.segment_pool.specs.Faults.{TroubleHolds, TroubleOf, TroubleSomewhere, FaultHolds, FaultTold, fault_of_trouble, IsDamage, IsDiskFault}
+use Rattle.segment_pool.specs.Placing.{bytes_in, HasPiece, IsDamaged, IsTruePool}
+use Rattle.segment_pool.specs.Faults.{TroubleHolds, TroubleOf, TroubleSomewhere, FaultHolds, FaultTold, fault_of_trouble, IsDamage}
 
 pub one_known : (pool : PoolState) (slot : ℕ) (x y : Slot) → held pool slot ≡ Some x → held pool slot ≡ Some y → x ≡ y
 one_known pool slot x y a b = cc (a, b)

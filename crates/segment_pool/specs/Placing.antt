@@ -1,5 +1,5 @@
 -- The pieces of a pool in its file, and what a placing changes of the file.
-use Rattle.std.specs.Prelude.{◌≡◌, ◌≢◌, ◌⊎◌, ℕ, ◌+◌, ◌*◌, ◌<◌, ◌≤◌, max, List, length, take, drop, Option, Some}
+use Rattle.std.specs.Prelude.{◌≡◌, ◌≢◌, ◌⊎◌, ℕ, ◌*◌, ◌<◌, ◌≤◌, max, List, length, take, drop, Some}
 use Rattle.vault_disk.specs.Disk.{Image, Disk, During}
 use Rattle.vault_disk.specs.Steps.{Changes, Follows, Torn}
 use Rattle.segment_pool.specs.declared.fault.ReadTrouble.{ReadTrouble}
@@ -40,6 +40,11 @@ pub record IsDamaged (digest_of : List ℕ → List ℕ) (pool : PoolState) (ima
   pub recorded_is : recorded ≡ what.digest
   pub found_is : found ≡ digest_of (bytes_in pool image slot what.length)
   pub differ : (length (bytes_in pool image slot what.length) < what.length) ⊎ (found ≢ recorded)
+
+-- a slot's bytes are those recorded, and of no held slot
+pub record HasOwnBytes (digest_of : List ℕ → List ℕ) (pool : PoolState) (image : Image) (slot : ℕ) (what : Slot) : Type 0 where
+  pub whole : IsWhole digest_of what (bytes_in pool image slot what.length)
+  pub alone : (t : ℕ) (other : Slot) → held pool t ≡ Some other → bytes_in pool image t other.length ≢ bytes_in pool image slot what.length
 
 -- no other file changes, no whole piece of a held slot changes, and the pool's file grows at most to this end
 pub record KeepsPieces (pool : PoolState) (end : ℕ) (old new : Image) : Type 0 where

@@ -1,9 +1,9 @@
 ghost use Rattle.std.specs.Prelude.{◌≡◌, ◌≢◌, ◌⊎◌, ◌+◌, ◌-◌, ◌*◌, ◌<◌, ◌≤◌, ◌^◌, [], ℕ, List, length, take, drop, option_map, true, false, if◌then◌else◌, IfOk, IfErr, OnOk, OnErr, IfSome, IsSome, IsTrue, ◌↔◌, MatchOption, MatchBool, None, Some};
-ghost use Rattle.vault_disk.specs.Disk.{IsSame};
+ghost use Rattle.vault_disk.specs.Disk.{Image, IsSame};
 ghost use Rattle.vault_disk.specs.Steps.{Changes, LookedAround, written};
 ghost use Rattle.segment_pool.specs.Faults.{FaultHolds, FaultTold, IsDamage, IsDiskFault, TroubleHolds, TroubleOf, TroubleSomewhere};
 ghost use Rattle.segment_pool.specs.Index.{IsNextBelow, bits_of, leading_bits};
-ghost use Rattle.segment_pool.specs.Placing.{HasPiece, IsTruePool, IsWhole, KeepsPieces, LacksPiece, TornIn, Touches, bytes_in};
+ghost use Rattle.segment_pool.specs.Placing.{HasOwnBytes, HasPiece, IsTruePool, IsWhole, KeepsPieces, LacksPiece, TornIn, Touches, bytes_in};
 ghost use Rattle.segment_pool.specs.Slots.{AreSound, Becomes, IsAsBefore, IsEnd, IsLowestFree, IsPinnedAtMost, Matches, PinnedAgain, Placed, PoolState, count_of, held, live_piece, made_live, number_held, pinned_piece, spare, while_held};
 ghost use Rattle.segment_pool.specs.declared.slot.Slot.{Slot as Known};
 
@@ -152,7 +152,8 @@ impl<F: Fingerprint> Pool<F> {
         self.table.hold(slot, what);
     }
 
-    /// Makes a recorded slot live, with a count of 0.
+    /// Makes a recorded slot live, with a count of 0. A true pool stays true where the slot's bytes are those recorded, and of no
+    /// held slot.
     pub fn adopt(
         &mut self,
         alloc: Global,
@@ -165,6 +166,7 @@ impl<F: Fingerprint> Pool<F> {
         requires some { 1 ≤ length }
         requires short { length ≤ self.old.size }
         ensures ok { OnOk result (Becomes self.old self.new slot (Some (live_piece length digest))) }
+        ensures stays_true { (image : Image) → IsTruePool F.digest_of self.old image → HasOwnBytes F.digest_of self.old image slot (live_piece length digest) → OnOk result (IsTruePool F.digest_of self.new image) }
         ensures err { OnErr result (IsAsBefore self.old self.new) }
     {
         self.lengthen(slot as usize + 1)?;

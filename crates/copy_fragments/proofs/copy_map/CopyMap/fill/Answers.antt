@@ -1,4 +1,4 @@
-use Rattle.std.proofs.Common.{◌≡◌, ◌+◌, ◌≤◌, ℕ, length, rules, arith, ◌∙◌}
+use Rattle.std.proofs.Common.{ℕ, length, rules, arith, ◌∙◌}
 use Rattle.vault_disk.proofs.Moments.{same_on}
 use Rattle.vault_disk.proofs.ReadOn.{within_part}
 use Rattle.segment_pool.specs.Faults.{TroubleHolds}

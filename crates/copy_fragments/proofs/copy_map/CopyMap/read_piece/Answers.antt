@@ -1,4 +1,4 @@
-use Rattle.std.proofs.Common.{◌≡◌, ◌+◌, ◌≤◌, ℕ, length, rules, arith}
+use Rattle.std.proofs.Common.{ℕ, length, rules, arith}
 use Rattle.std.proofs.lemmas.List.{length-take}
 use Rattle.segment_pool.specs.Faults.{TroubleHolds}
 use Rattle.segment_pool.specs.declared.fault.ReadTrouble.{ReadTrouble}

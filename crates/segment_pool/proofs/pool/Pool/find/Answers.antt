@@ -1,4 +1,4 @@
-use Rattle.std.proofs.Common.{◌≡◌, ◌<◌, ℕ, false, Some, sym, ◌∙◌, ap, subst}
+use Rattle.std.proofs.Common.{◌≡◌, ◌<◌, ℕ, Some, sym, ◌∙◌, ap, subst}
 use Rattle.std.specs.Prelude.{Option, Bool, MatchBool, MatchOption}
 use Rattle.vault_disk.proofs.Moments.{same_on}
 use Rattle.segment_pool.specs.Index.{IsNextBelow, bits_of, leading_bits}

@@ -1,4 +1,4 @@
-use Rattle.std.proofs.Common.{◌≡◌, inl, ℕ, ◌+◌, ◌*◌, List, length, Some, None, Ok, refl, sym, ◌∙◌, ap, subst, rules}
+use Rattle.std.proofs.Common.{◌≡◌, inl, ℕ, ◌*◌, length, sym, ◌∙◌, ap, subst, rules}
 use Rattle.std.specs.Prelude.{Option, IfErr, IfOk, IfSome, MatchOption, OnErr, is_some}
 use Rattle.vault_disk.specs.Steps.{Changes, written}
 use Rattle.segment_pool.specs.Slots.{PoolState, IsAsBefore, IsLowestFree, Matches, PinnedAgain, Placed, held}

@@ -1,6 +1,5 @@
-use Rattle.std.proofs.Common.{◌≡◌, ◌*◌, List, ℕ, length, take, drop, refl, sym, ◌∙◌, ap, arith, rules}
+use Rattle.std.proofs.Common.{◌≡◌, ◌*◌, List, ℕ, take, drop, refl, sym, ◌∙◌, ap, arith, rules}
 use Rattle.std.proofs.lemmas.Grind.{common_steps}
-use Rattle.segment_pool.specs.Placing.{bytes_in}
 use Rattle.segment_pool.specs.Slots.{PoolState}
 use Rattle.segment_pool.proofs.Troubles.{equal_bytes, has_so, lacks_so, other_bytes}
 use Rattle.segment_pool.proofs.pool.Pool.has_piece.Goals as goal

@@ -1,4 +1,4 @@
-use Rattle.std.proofs.Common.{◌≡◌, ◌<◌, ◌≤◌, List, length, Some, sym, ◌∙◌, ap, subst, arith}
+use Rattle.std.proofs.Common.{◌<◌, ◌≤◌, List, length, Some, sym, subst}
 use Rattle.std.specs.Prelude.{Option}
 use Rattle.segment_pool.specs.declared.slot.Slot.{Slot}
 use Rattle.segment_pool.specs.Slots.{PoolState, AreSound}

@@ -2,7 +2,7 @@ use Rattle.std.proofs.Common.{List, sym, subst}
 use Rattle.std.specs.Prelude.{Option}
 use Rattle.segment_pool.specs.declared.slot.Slot.{Slot}
 use Rattle.segment_pool.specs.Slots.{AreSound}
-use Rattle.segment_pool.proofs.Changes.{sound_grown, table_grown, table_same}
+use Rattle.segment_pool.proofs.Changes.{sound_grown}
 use Rattle.segment_pool.proofs.pool.Pool.lengthen.Goals as goal
 
 pub invariant_of-self : goal.invariant_of-self
