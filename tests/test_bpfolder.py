@@ -286,8 +286,8 @@ class LeftOut(FolderTest):
         os.symlink("d", self.home / "to a folder")
         os.symlink("nothing", self.home / "d/to nothing")
         os.mkfifo(self.home / "pipe")
-        with socket.socket(socket.AF_UNIX) as one, contextlib.chdir(self.home):
-            one.bind("socket")
+        with socket.socket(socket.AF_UNIX) as one:
+            one.bind(str(self.home / "socket"))
         self.says(
             self.back_up(),
             0,
