@@ -127,6 +127,8 @@ class Rows(RowsTest):
     def test_the_tree_is_these_bytes(self):
         spelled = "4e424331 01 0002 2f61 00000000000005dc 0000000000000002 4132 01 0002 2f63 0000000000000dac 0000000000000002 4332 00"
         self.assertEqual((TREE.hex(), len(TREE)), (spelled.replace(" ", ""), 51))
+        spelled = "4e424931 01 0002 2f61 00000000000005dc 0000000000000002 4132 02 0002 2f62 00"
+        self.assertEqual((CHAIN_RECORDS[1].payload.hex(), len(CHAIN_RECORDS[1].payload)), (spelled.replace(" ", ""), 33))
 
     def test_a_chain_and_its_trees(self):
         self.assertEqual(self.run_rows([*CHAIN, *TREES]), [*SITE_RECORDS, *CHAIN_RECORDS])

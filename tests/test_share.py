@@ -56,6 +56,11 @@ def usage_lines():
     return re.findall(r"(?m)^  (\S.*)$", (SHARE / "usage.txt").read_text())
 
 
+def ways():
+    """Returns the words and the keys of each line of the usage."""
+    return [(tuple(re.match(r"[a-z-]+( [a-z-]+(?!\S))?", line)[0].split()), re.findall(r"([a-z0-9-]+)=", line)) for line in usage_lines()]
+
+
 def begun(word, others):
     """Returns how to type the word so that it is completed: its beginning that no other word has and a tab, or else all of it and a blank."""
     start = word[:-1]
@@ -149,13 +154,13 @@ class Share(unittest.TestCase):
     def completes_all(self, shell):
         """Types each form with each of its keys by their beginnings, and compares what the shell makes of them."""
         firsts = [*dict.fromkeys(words[0] for words, _, _ in TABLE)]
-        for words, keys, _ in TABLE:
+        for words, keys in ways():
             given = [key for key in keys if key not in ("calendar", "offset")]
             for moment in ("", "@5 "):
                 seconds = [it[1] for it, _, _ in TABLE if it[0] == words[0] and len(it) == 2]
                 typed = begun(words[0], [*firsts, *([] if moment else ["session"])])
                 typed += "".join(begun(it, seconds) for it in words[1:])
-                left = [f"{key}=" for key in keys]
+                left = [f"{key}=" for it, all_keys, _ in TABLE if it == words for key in all_keys]
                 for key in given:
                     typed += f"{begun(f'{key}=', left)}x "
                     left.remove(f"{key}=")
@@ -196,6 +201,10 @@ class Share(unittest.TestCase):
             ("bpdesk ./v bpplsched add ", "policy= schedule= kind= frequency= calendar= windows="),
             ("bpdesk ./v bpplsched add policy=p frequency=5 kind=full ", "schedule= windows="),
             ("bpdesk ./v bpzone set rule=UTC0 ", ""),
+            ("bpdesk ./v bprestore ", "id= copy= client= policy= before="),
+            ("bpdesk ./v bprestore copy=1 ", "id="),
+            ("bpdesk ./v bprestore before=5 ", "client= policy="),
+            ("bpdesk ./v bpbackup client=a ", "policy= schedule= start="),
             ("bpdesk ./v bpplsched add kind=", "full diff cumul"),
             ("bpdesk ./v bpplsched add kind=d", "diff"),
             ("bpdesk ./v bpbackup client=a start=", "manual scheduled"),
