@@ -270,15 +270,20 @@ fn push_ways(
         out.push_str(" don't go with ")?;
         return push_list(out, &other, "=", " and ");
     }
-    if has_one {
-        return push_lacking(out, &not_given(alloc, form, words, Need::OneWay)?);
+    if has_one || has_other {
+        let need = if has_one {
+            Need::OneWay
+        } else {
+            Need::OtherWay
+        };
+        let lacking = not_given(alloc, form, words, need)?;
+        return push_lacking(out, &lacking);
     }
-    if has_other {
-        return push_lacking(out, &not_given(alloc, form, words, Need::OtherWay)?);
-    }
-    push_lacking(out, &names(alloc, form, Need::OneWay)?)?;
+    let first = names(alloc, form, Need::OneWay)?;
+    let second = names(alloc, form, Need::OtherWay)?;
+    push_lacking(out, &first)?;
     out.push_str(", or ")?;
-    push_list(out, &names(alloc, form, Need::OtherWay)?, "=", " and ")
+    push_list(out, &second, "=", " and ")
 }
 
 fn push_lacking(out: &mut String, lacking: &[&str]) -> Result<(), NoMemory> {
