@@ -208,6 +208,23 @@ class Rows(RowsTest):
             ]
         )
 
+    def test_images_between_that_are_none_of_the_chain(self):
+        """A cumulative one skips the differential ones before it, also where a file's older content came back with its older time."""
+        self.run_rows(
+            [
+                *SITE,
+                (f"@1000 {BACKUP} schedule=f", 0, "alpha_1000", stream(A1, B1)),
+                (f"@2000 {BACKUP} schedule=d", 0, "alpha_2000", stream(A2, B1)),
+                (f"@3000 {BACKUP} schedule=c", 0, "alpha_3000", stream(A1, B1, C1)),
+                (RESTORE, 0, stream(A1, B1, C1)),
+                # What the chain before has alone is in no tree of the next one.
+                (f"@4000 {BACKUP} schedule=f", 0, "alpha_4000", stream(B1)),
+                (f"@5000 {BACKUP} schedule=d", 0, "alpha_5000", stream(A2, B1)),
+                (RESTORE, 0, stream(B1)),
+                (f"{RESTORE} before=3999", 0, stream(A1, B1, C1)),
+            ]
+        )
+
     def test_a_file_that_went_and_came_back(self):
         """With its old time it isn't taken again: the chain has it."""
         self.run_rows(
@@ -454,6 +471,12 @@ class Refusals(RowsTest):
             ]
         )
 
+    def test_a_chain_goes_by_bases_and_not_by_kinds(self):
+        full, diff, _, last = CHAIN_RECORDS
+        # A full image with a base is none that a backup makes; what it says of its base holds all the same.
+        self.restores_of([full, last._replace(kind=FULL, base=1000, payload=image(File(b"/b"), C2))], [(RESTORE, 0, stream(B1, C2))])
+        self.restores_of([full, diff._replace(base=0)], [(RESTORE, 0, stream(A2))])
+
     def restores_of(self, images, rows):
         """Runs restores, as commands and as a session, on a vault that has such images."""
         self.desk = self.new_desk()
@@ -496,7 +519,7 @@ class Refusals(RowsTest):
         bad = b"NBI1\2\0\2/b\2\0\2/a\0"
         self.restores_of([full._replace(payload=b"hello")], [(RESTORE, 23, "bad stream at 0"), ("bprestore id=alpha_1000", 0, b"hello")])
         self.restores_of([full._replace(payload=stream(A1))], [(RESTORE, 23, "bad stream at 0")])
-        self.restores_of([full, diff._replace(payload=bad)], [(RESTORE, 23, "bad stream at 11"), (f"{RESTORE} before=1000", 0, stream(A1, B1))])
+        self.restores_of([full, diff._replace(payload=bad)], [(RESTORE, 23, "bad stream at 12"), (f"{RESTORE} before=1000", 0, stream(A1, B1))])
         self.restores_of([full._replace(payload=image(A1)[:9]), diff._replace(payload=bad)], [(RESTORE, 23, "bad stream at 9")])
         self.restores_of([full._replace(payload=image(A1) + b"\0"), diff], [(RESTORE, 23, f"bad stream at {len(image(A1))}")])
 
@@ -674,7 +697,8 @@ class Order(Traced):
         for entry, gate in zip(CHAIN_RECORDS, vault.gates(*SITE_RECORDS, *CHAIN_RECORDS)[len(SITE) :]):
             wanted += [Step("write", gate + 1, len(vault.record(entry))), Step("sync"), Step("write", gate, 1), Step("sync")]
             wanted += [Step("reply", 0, len(desk.frame(0, entry.id + b"\n")))]
-        wanted.append(Step("reply", 0, len(desk.frame(0, TREE))))
+        # (the restore has nothing before its reply)
+        wanted = whole_replies([*wanted, Step("reply", 0, len(desk.frame(0, TREE)))])
         steps = whole_replies(joined(self.steps(lines)))
         self.assertEqual(steps[-len(wanted) :], wanted)
 
