@@ -74,8 +74,6 @@ BAD_WORDS = [
 BAD_OPTIONS = [(["--help"], 0), (["--framed"], 0), (["--framed", "bpbackup", "client=a"], 0), (["-x"], 0), (["bpbackup", "--framed", "client=a"], 1)]
 # Requests that no form makes yet. The one that adds such a form takes its row away.
 NOT_YET = [
-    (["bppolicynew", "add", "policy=p", "type=files", "lifecycle=basic"], 3),
-    (["bprestore", "client=a", "policy=p"], 1),
     (["job-open", "client=a"], 0),
     (["job-feed", "job=1"], 0),
     (["job-seal", "job=1"], 0),

@@ -2,6 +2,7 @@
 
 import os
 import re
+import shutil
 import subprocess
 from pathlib import Path
 
@@ -36,17 +37,20 @@ def site_files(document):
 
 class Document(DeskTest):
     def test_worked_commands_print_what_it_says(self):
-        """They are pasted one after another, at the top of a folder in which the program has the launcher's name."""
+        """They are pasted one after another, at the top of a folder in which the program has the launcher's name, with the tools."""
         os.symlink(desk.PROGRAM, Path(self.top, "bpdesk"))
+        Path(self.top, "tools").mkdir()
+        shutil.copy(desk.ROOT / "tools/bpfolder", Path(self.top, "tools"))
+        environment = {name: value for name, value in os.environ.items() if name != "BPDESK"}
         for document in (README, DOCUMENT):
             found = worked(document.read_text())
             self.assertTrue(found, f"no worked commands in {document}")
             for commands, printed in found:
                 with self.subTest(commands=commands):
-                    ran = subprocess.run(["bash"], input=commands, stdout=subprocess.PIPE, cwd=self.top, text=True, timeout=desk.PATIENCE)
+                    ran = subprocess.run(["bash"], input=commands, stdout=subprocess.PIPE, cwd=self.top, env=environment, text=True, timeout=desk.PATIENCE)
                     self.assertEqual(ran.stdout.rstrip("\n"), printed.rstrip("\n"))
-                    left = {*os.listdir(self.top)} - {"bpdesk", *KEPT}
-                    if "rm -r" in commands:
+                    left = {*os.listdir(self.top)} - {"bpdesk", "tools", *KEPT}
+                    if "rm -r ./example " in f"{commands} ".replace("\n", " "):
                         self.assertEqual(left, set(), "the commands leave files behind")
 
     def test_each_status_has_what_a_script_does(self):

@@ -56,6 +56,11 @@ def usage_lines():
     return re.findall(r"(?m)^  (\S.*)$", (SHARE / "usage.txt").read_text())
 
 
+def ways():
+    """Returns the words and the keys of each line of the usage."""
+    return [(tuple(re.match(r"[a-z-]+( [a-z-]+(?!\S))?", line)[0].split()), re.findall(r"([a-z0-9-]+)=", line)) for line in usage_lines()]
+
+
 def begun(word, others):
     """Returns how to type the word so that it is completed: its beginning that no other word has and a tab, or else all of it and a blank."""
     start = word[:-1]
@@ -107,15 +112,19 @@ class Share(unittest.TestCase):
     def test_the_files_follow_the_table_of_forms(self):
         ran = subprocess.run([sys.executable, "-B", desk.ROOT / "tools/forms", "--check"], capture_output=True, text=True, timeout=desk.PATIENCE)
         self.assertEqual((ran.returncode, ran.stdout, ran.stderr), (0, "", ""), "run tools/forms")
-        self.assertEqual(len(usage_lines()), len(TABLE))
-        for (words, keys, takes_payload), line in zip(TABLE, usage_lines()):
-            self.assertEqual(line.split()[: len(words)], list(words))
-            self.assertEqual(tuple(re.findall(r"([a-z0-9-]+)=", line)), keys)
-            self.assertEqual(line.endswith(" <FILE"), takes_payload)
+        lines = usage_lines()
+        for words, keys, takes_payload in TABLE:
+            # (a form may be written in two ways, whose keys don't go together)
+            own = [line for line in lines if line.split()[: len(words)] == list(words)]
+            self.assertEqual(lines[: len(own)], own or [" ".join(words)])
+            self.assertEqual(tuple(re.findall(r"([a-z0-9-]+)=", " ".join(own))), keys)
+            self.assertEqual({line.endswith(" <FILE") for line in own}, {takes_payload})
+            lines = lines[len(own) :]
+        self.assertEqual(lines, [])
 
     def test_a_difference_is_told(self):
         table, document = FORMS.TABLE.read_text(), FORMS.DOCUMENT.read_text()
-        for right, wrong in (("`client remove name=`", "`client remove policy=`"), ("`client remove name=`", "`client rename name=`"), ("| `copy` |", "| `copies` |"), ("[segment=] [fragment=]", "[fragment=] [segment=]")):
+        for right, wrong in (("`client remove name=`", "`client remove policy=`"), ("`client remove name=`", "`client rename name=`"), ("| `copy` |", "| `copies` |"), ("`bprestore client= policy= [before=]`", "`bprestore policy= client= [before=]`"), ("`bprestore client= policy= [before=]`", "`bprestore policy= [before=]`"), ("[segment=] [fragment=]", "[fragment=] [segment=]")):
             with self.subTest(wrong=wrong), self.assertRaises(SystemExit):
                 self.assertIn(right, document)
                 changed = document.replace(right, wrong)
@@ -145,13 +154,13 @@ class Share(unittest.TestCase):
     def completes_all(self, shell):
         """Types each form with each of its keys by their beginnings, and compares what the shell makes of them."""
         firsts = [*dict.fromkeys(words[0] for words, _, _ in TABLE)]
-        for words, keys, _ in TABLE:
+        for words, keys in ways():
             given = [key for key in keys if key not in ("calendar", "offset")]
             for moment in ("", "@5 "):
                 seconds = [it[1] for it, _, _ in TABLE if it[0] == words[0] and len(it) == 2]
                 typed = begun(words[0], [*firsts, *([] if moment else ["session"])])
                 typed += "".join(begun(it, seconds) for it in words[1:])
-                left = [f"{key}=" for key in keys]
+                left = [f"{key}=" for it, all_keys, _ in TABLE if it == words for key in all_keys]
                 for key in given:
                     typed += f"{begun(f'{key}=', left)}x "
                     left.remove(f"{key}=")
@@ -192,6 +201,10 @@ class Share(unittest.TestCase):
             ("bpdesk ./v bpplsched add ", "policy= schedule= kind= frequency= calendar= windows="),
             ("bpdesk ./v bpplsched add policy=p frequency=5 kind=full ", "schedule= windows="),
             ("bpdesk ./v bpzone set rule=UTC0 ", ""),
+            ("bpdesk ./v bprestore ", "id= copy= client= policy= before="),
+            ("bpdesk ./v bprestore copy=1 ", "id="),
+            ("bpdesk ./v bprestore before=5 ", "client= policy="),
+            ("bpdesk ./v bpbackup client=a ", "policy= schedule= start="),
             ("bpdesk ./v bpplsched add kind=", "full diff cumul"),
             ("bpdesk ./v bpplsched add kind=d", "diff"),
             ("bpdesk ./v bpbackup client=a start=", "manual scheduled"),

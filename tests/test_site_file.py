@@ -103,6 +103,10 @@ GOOD = {
             "bppolicynew select policy=p path=/\"\\",
         ],
     ),
+    "a policy of files, with a schedule of each kind": (
+        POLICY.replace(b"raw", b"files") + b"".join(b'[[policy.schedule]]\nschedule = "%s"\nkind = "%s"\nfrequency = 1\nwindows = "none"\n' % (kind, kind) for kind in (b"full", b"diff", b"cumul")),
+        ["bppolicynew add policy=p type=files lifecycle=basic", *(f"bpplsched add policy=p schedule={kind} kind={kind} frequency=1 windows=none" for kind in ("full", "diff", "cumul"))],
+    ),
     "empty lists": (POLICY + b"clients = []\nselections = []\nschedule = []\n", ["bppolicynew add policy=p type=raw lifecycle=basic"]),
 }
 
@@ -164,7 +168,7 @@ BAD = {
     "a capacity that is too great": b'[[unit]]\nname = "t"\ncapacity = 1125899906842625\n',
     "a capacity with a leading zero": b'[[unit]]\nname = "t"\ncapacity = "01"\n',
     "a segment of 15": b'[[unit]]\nname = "t"\ncapacity = 1\nsegment = 15\n',
-    "a type that is not there yet": POLICY.replace(b"raw", b"files"),
+    "an unknown type": POLICY.replace(b"raw", b"tape"),
     "an unknown kind": SCHEDULE + b'schedule = "s"\nkind = "incr"\nfrequency = 1\nwindows = "none"\n',
     "a frequency of 0": SCHEDULE + b'schedule = "s"\nkind = "full"\nfrequency = 0\nwindows = "none"\n',
     "a calendar without such a day": SCHEDULE + b'schedule = "s"\nkind = "full"\ncalendar = "d2023-02-29"\nwindows = "none"\n',
@@ -193,7 +197,7 @@ REFUSED = {
     "a lifecycle that is not there": (POLICY.replace(b"basic", b"gold"), 4, "gold unknown"),
     "a path twice": (POLICY + b'selections = ["/a b", "/a b"]\n', 3, "/a%20b exists"),
     "a schedule twice": (POLICY + 2 * b'[[policy.schedule]]\nschedule = "s"\nkind = "full"\nfrequency = 1\nwindows = "none"\n', 3, "p/s exists"),
-    "a schedule that is not full": (SCHEDULE + b'schedule = "s"\nkind = "diff"\nfrequency = 1\nwindows = "none"\n', 6, "rule 8 broken"),
+    "a schedule of a raw policy that is not full": (SCHEDULE + b'schedule = "s"\nkind = "diff"\nfrequency = 1\nwindows = "none"\n', 6, "rule 8 broken"),
     "units come before clients": (b'[[client]]\nname = "a"\n[[client]]\nname = "a"\n[[unit]]\nname = "disk0"\ncapacity = 1\n', 3, "disk0 exists"),
     "clients come before policies": (POLICY.replace(b"basic", b"gold") + b'[[client]]\nname = "a"\n[[client]]\nname = "a"\n', 3, "a exists"),
     "a policy's parts come before the next policy": (POLICY + b'clients = ["b"]\n' + POLICY, 4, "b unknown"),

@@ -16,6 +16,9 @@ LINES = [
     ("client add name=a", "client add name=a"),
     ("@250000000000 client add name=b", "client add name=b"),
     ("bppolicynew add lifecycle=basic policy=p type=raw", "bppolicynew add policy=p type=raw lifecycle=basic"),
+    ("bppolicynew add type=files lifecycle=basic policy=q", "bppolicynew add policy=q type=files lifecycle=basic"),
+    ("bpplsched add kind=diff windows=none schedule=d frequency=1 policy=q", "bpplsched add policy=q schedule=d kind=diff frequency=1 windows=none"),
+    ("bpplsched change kind=cumul windows=none schedule=d calendar=mL policy=q", "bpplsched change policy=q schedule=d kind=cumul calendar=mL windows=none"),
     ("bppolicynew change lifecycle=basic active=no policy=p", "bppolicynew change policy=p active=no lifecycle=basic"),
     ("bppolicynew change active=yes policy=p", "bppolicynew change policy=p active=yes"),
     ("bppolicynew change policy=p", "bppolicynew change policy=p"),
@@ -70,7 +73,7 @@ UNFIT = [
     # Bad words.
     "client add name=a/b",
     "client add name=c frob=1",
-    "bppolicynew add policy=q type=files lifecycle=basic",
+    "bppolicynew add policy=q type=tape lifecycle=basic",
     "bpzone set rule=UTC0 offset=+00:00",
     "bpzone set offset=-00:00",
     "unit add name=t capacity=1 high=80",
@@ -98,6 +101,7 @@ UNFIT = [
     "bpload",
     "bpbackup client=c",
     "bprestore id=alpha_1000",
+    "bprestore client=alpha policy=adhoc",
     "session",
 ]
 

@@ -120,6 +120,28 @@ BAD = [
     ("bpplsched change policy=p schedule=s kind=full calendar=mL frequency=1 windows=none", 8),
     ("bpzone set", 2),
     ("bpzone set rule=UTC0 offset=+00:00", 4),
+    # A restore is by an id, or by a client and a policy: the keys of the one don't go with those of the other.
+    ("bprestore", 1),
+    ("@5 bprestore", 2),
+    ("bprestore copy=1", 2),
+    ("bprestore before=5", 2),
+    ("bprestore client=a", 2),
+    ("bprestore policy=p", 2),
+    ("bprestore client=a before=5", 3),
+    ("bprestore before=5 policy=p", 3),
+    ("bprestore id=a_1 client=a", 3),
+    ("bprestore id=a_1 policy=p", 3),
+    ("bprestore id=a_1 before=5", 3),
+    ("bprestore before=5 id=a_1", 3),
+    ("bprestore id=a_1 client=a policy=p", 4),
+    ("bprestore client=a policy=p copy=1", 4),
+    ("bprestore copy=1 client=a policy=p before=5", 5),
+    ("bprestore copy=1 before=5", 3),
+    ("bprestore id=a_1 copy=1 client=a", 4),
+    ("bprestore id=a_1 copy=1 policy=p", 4),
+    ("bprestore id=a_1 copy=1 before=5", 4),
+    ("bprestore id=a_1 copy=1 client=a policy=p before=5", 6),
+    ("@5 bprestore client=a policy=p id=a_1", 5),
     # One mark without the other, and marks that are not one below the other, also by their defaults.
     ("unit change name=t high=80", 4),
     ("unit change name=t low=10", 4),
@@ -144,8 +166,12 @@ BAD = [
     ("unit change name=t high=40 low=100", 4),
     ("bpplsched add policy=p schedule=s kind=full frequency=1 calendar=m0 windows=none", 6),
     ("bpzone set rule=UTC0 offset=-00:00", 3),
-    ("bppolicynew add policy=p type=files", 3),
-    ("bppolicynew add policy=p type=files lifecycle=basic", 3),
+    ("bppolicynew add policy=p type=tape", 3),
+    ("bppolicynew add policy=p type=tape lifecycle=basic", 3),
+    ("bprestore id=a_1 client=a/b", 2),
+    ("bprestore client=a id=a", 2),
+    ("bprestore id=a_1 before=5 frob=1", 3),
+    ("bprestore client=a policy=p before=01 copy=1", 3),
     ("bppolicynew select policy=p path=/a%2F", 3),
     ("unit add name=t capacity=1 segment=15", 4),
     ("bpplsched add policy=p schedule=s kind=full calendar=m32 windows=none", 5),
@@ -174,7 +200,7 @@ VALUES = [
     ("unit change name={}", *NAMES),
     ("bppolicynew add policy={} type=raw lifecycle=basic", *NAMES),
     ("bppolicynew add policy=p# type=raw lifecycle={}", ["basic", "gold", NAME_OF_64], NAMES[1]),
-    ("bppolicynew add policy=p# type={} lifecycle=basic", ["raw"], ["", "files", "Raw", "raws", "1"]),
+    ("bppolicynew add policy=p# type={} lifecycle=basic", ["raw", "files"], ["", "Raw", "raws", "Files", "file", "raw,files", "1"]),
     ("bppolicynew change policy={}", *NAMES),
     ("bppolicynew change policy=adhoc active={}", ["yes", "no"], ["", "Yes", "true", "1", "y", "yes,no"]),
     ("bppolicynew change policy=adhoc lifecycle={}", ["basic", NAME_OF_64], NAMES[1]),
@@ -254,6 +280,9 @@ VALUES = [
         ["", "a", "_1", "a_", "a_0", "a_01", "a_-1", "a_+1", "a_250000000001", "a_18446744073709551617", "a/b_1", "a_1_", "a_1x", f"{NAME_OF_64}n_1"],
     ),
     ("bprestore id=a_1 copy={}", ["1", "32"], ["", "0", "01", "33", "257", "x", "-1", *LARGE]),
+    ("bprestore client={} policy=adhoc", *NAMES),
+    ("bprestore client=a policy={}", *NAMES),
+    ("bprestore client=a policy=adhoc before={}", ["0", "1", "250000000000"], ["", "00", "01", "-1", "+1", "1.0", "x", "now", "250000000001", *LARGE]),
 ]
 
 # Each form: the keys that it needs, those that it may have, and two of which it needs one and not both.
@@ -278,23 +307,33 @@ FORMS = {
     "bprestore": ("id", "copy", ""),
 }
 
+# The other keys with which a form may be written, in place of those above.
+OTHER_WAYS = {"bprestore": ("client policy", "before", "")}
+
 # A good value of each key.
 VALUE_OF = {
     **dict.fromkeys(("name", "policy", "client", "schedule", "lifecycle"), "a"),
     **{"capacity": "1", "segment": "16", "fragment": "1", "slots": "1", "high": "2", "low": "1"},
     **{"type": "raw", "active": "no", "path": "/", "kind": "full", "frequency": "1", "calendar": "mL", "windows": "none"},
-    **{"rule": "UTC0", "offset": "+00:00", "start": "manual", "id": "a_1", "copy": "1"},
+    **{"rule": "UTC0", "offset": "+00:00", "start": "manual", "id": "a_1", "copy": "1", "before": "5"},
 }
 
 
+def ways_of(form):
+    return [FORMS[form], *([OTHER_WAYS[form]] if form in OTHER_WAYS else [])]
+
+
 def keys_of(form):
-    needed, others, either = FORMS[form]
-    return [*needed.split(), *others.split(), *either.split()]
+    return [key for way in ways_of(form) for keys in way for key in keys.split()]
 
 
 def bad_of(form):
     """Returns bad words of a form, each made of good ones by one fault, with the index that is told."""
-    needed, others, either = FORMS[form]
+    for way in ways_of(form):
+        yield from bad_of_way(form, *way)
+
+
+def bad_of_way(form, needed, others, either):
     head, whole = form.split(" "), [*needed.split(), *either.split()[:1], *others.split()]
     words = [*head, *(f"{key}={VALUE_OF[key]}" for key in whole)]
     count = len(words)
@@ -310,6 +349,11 @@ def bad_of(form):
             yield [*words[:at], *words[at + 1 :]], count - 1
     for key in either.split()[1:]:
         yield [*words, f"{key}={VALUE_OF[key]}"], count + 1
+    # A key of the other way to write the form.
+    for key in keys_of(form):
+        if key not in f"{needed} {others} {either}".split():
+            yield [*words, f"{key}={VALUE_OF[key]}"], count + 1
+            yield [*head, f"{key}={VALUE_OF[key]}", *words[len(head) :]], count + 1
     # A key that other forms have, and none that any has.
     for word in [*(f"{key}={value}" for key, value in VALUE_OF.items() if key not in keys_of(form)), "frob=1", ""]:
         yield [*words, word], count

@@ -10,6 +10,14 @@ pub enum Need {
     OneOf,
     /// Of the keys of the form that are marked so there is each or none.
     AllOrNone,
+    /// The form is written in one of two ways, and this key is of the first of them.
+    OneWay,
+    /// It is of the first way too, and may be missing there.
+    OneWayMaybe,
+    /// It is of the other way.
+    OtherWay,
+    /// It is of the other way too, and may be missing there.
+    OtherWayMaybe,
 }
 
 /// A key of a form, as its line of the usage has it.

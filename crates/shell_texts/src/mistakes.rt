@@ -232,14 +232,12 @@ fn push_missing(
     form: &FormText,
     words: &[Text],
 ) -> Result<(), NoMemory> {
-    let lacking: Vec<&str> = names(alloc, form, Need::Always)?
-        .iter()
-        .copied()
-        .filter(|name| !gives(words, name.as_bytes()))
-        .collect(alloc)?;
+    if form.keys.iter().any(|key| key.need == Need::OneWay) {
+        return push_ways(alloc, out, form, words);
+    }
+    let lacking = not_given(alloc, form, words, Need::Always)?;
     if !lacking.is_empty() {
-        out.push_str(" lacks ")?;
-        return push_list(out, &lacking, "=", " and ");
+        return push_lacking(out, &lacking);
     }
     let some = names(alloc, form, Need::OneOf)?;
     if !some.is_empty() && count_given(&some, words) != 1 {
@@ -253,6 +251,44 @@ fn push_missing(
         return out.push_str(", or none");
     }
     push_marks(out, words)
+}
+
+// Appends what is missing behind the words of a form that is written in one of two ways, or that both were begun.
+fn push_ways(
+    alloc: Global,
+    out: &mut String,
+    form: &FormText,
+    words: &[Text],
+) -> Result<(), NoMemory> {
+    let one = way(alloc, form, Need::OneWay, Need::OneWayMaybe)?;
+    let other = way(alloc, form, Need::OtherWay, Need::OtherWayMaybe)?;
+    let has_one = count_given(&one, words) > 0;
+    let has_other = count_given(&other, words) > 0;
+    if has_one && has_other {
+        out.push_str(": ")?;
+        push_list(out, &one, "=", " and ")?;
+        out.push_str(" don't go with ")?;
+        return push_list(out, &other, "=", " and ");
+    }
+    if has_one || has_other {
+        let need = if has_one {
+            Need::OneWay
+        } else {
+            Need::OtherWay
+        };
+        let lacking = not_given(alloc, form, words, need)?;
+        return push_lacking(out, &lacking);
+    }
+    let first = names(alloc, form, Need::OneWay)?;
+    let second = names(alloc, form, Need::OtherWay)?;
+    push_lacking(out, &first)?;
+    out.push_str(", or ")?;
+    push_list(out, &second, "=", " and ")
+}
+
+fn push_lacking(out: &mut String, lacking: &[&str]) -> Result<(), NoMemory> {
+    out.push_str(" lacks ")?;
+    push_list(out, lacking, "=", " and ")
 }
 
 // Appends that the marks don't go together, of which one may be missing.
@@ -276,6 +312,34 @@ fn names(alloc: Global, form: &FormText, need: Need) -> Result<Vec<&'static str>
     form.keys
         .iter()
         .filter(|key| key.need == need)
+        .map(|key| key.name)
+        .collect(alloc)
+}
+
+// The form's keys of this need to which no word gives a value.
+fn not_given(
+    alloc: Global,
+    form: &FormText,
+    words: &[Text],
+    need: Need,
+) -> Result<Vec<&'static str>, NoMemory> {
+    form.keys
+        .iter()
+        .filter(|key| key.need == need && !gives(words, key.name.as_bytes()))
+        .map(|key| key.name)
+        .collect(alloc)
+}
+
+// The form's keys of one way to write it, those that may be missing among them.
+fn way(
+    alloc: Global,
+    form: &FormText,
+    need: Need,
+    maybe: Need,
+) -> Result<Vec<&'static str>, NoMemory> {
+    form.keys
+        .iter()
+        .filter(|key| key.need == need || key.need == maybe)
         .map(|key| key.name)
         .collect(alloc)
 }

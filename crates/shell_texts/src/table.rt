@@ -2,7 +2,7 @@
 use crate::form_text::{FormText, KeyText, Need};
 
 /// The lines of the usage.
-pub static USAGE: [&str; 22] = [
+pub static USAGE: [&str; 23] = [
     "usage: bpdesk FOLDER [@N] REQUEST",
     "       bpdesk FOLDER session",
     "FOLDER is the vault, @N the moment in seconds since 1970-01-01. The requests, where keys in brackets may be missing:",
@@ -24,6 +24,7 @@ pub static USAGE: [&str; 22] = [
     "  bpload <FILE",
     "  bpbackup client= [policy=] [schedule=] [start=] <FILE",
     "  bprestore id= [copy=]",
+    "  bprestore client= policy= [before=]",
     "The manual page bpdesk(1) has the rest.",
 ];
 
@@ -55,7 +56,7 @@ pub static FORMS: [FormText; 18] = [
     form! { "bpzone" "set" => OneOf "rule", OneOf "offset" },
     form! { "bpload" =>  },
     form! { "bpbackup" => Always "client", Maybe "policy", Maybe "schedule", Maybe "start" },
-    form! { "bprestore" => Always "id", Maybe "copy" },
+    form! { "bprestore" => OneWay "id", OneWayMaybe "copy", OtherWay "client", OtherWay "policy", OtherWayMaybe "before" },
 ];
 
 macro_rules! takes {
@@ -65,7 +66,7 @@ macro_rules! takes {
 }
 
 /// What each key takes.
-pub static TAKES: [(&str, &str); 23] = [
+pub static TAKES: [(&str, &str); 24] = [
     takes! { "name" => "a name, 1 to 64 of A-Z a-z 0-9 . _ -" },
     takes! { "policy" => "a name, 1 to 64 of A-Z a-z 0-9 . _ -" },
     takes! { "client" => "a name, 1 to 64 of A-Z a-z 0-9 . _ -" },
@@ -77,7 +78,7 @@ pub static TAKES: [(&str, &str); 23] = [
     takes! { "slots" => "a number from 1 to 16777216" },
     takes! { "high" => "a number from 1 to 100" },
     takes! { "low" => "a number from 0 to 99" },
-    takes! { "type" => "raw" },
+    takes! { "type" => "files or raw" },
     takes! { "active" => "yes or no" },
     takes! { "path" => "a path as /home/a%20b, 1 to 1024 bytes: % and bytes that aren't printed are written as % and two digits" },
     takes! { "kind" => "full, diff or cumul" },
@@ -89,6 +90,7 @@ pub static TAKES: [(&str, &str); 23] = [
     takes! { "start" => "manual or scheduled" },
     takes! { "id" => "an id as a backup printed it: a name, _ and a time from 1 to 250000000000" },
     takes! { "copy" => "a number from 1 to 32" },
+    takes! { "before" => "a number from 0 to 250000000000" },
 ];
 
 /// The marks of a unit that is added without them.
