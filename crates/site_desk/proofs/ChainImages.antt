@@ -1,12 +1,14 @@
 -- Images that are read one after another.
-use Rattle.std.proofs.Common.{◌≡◌, ◌<◌, ◌+◌, ◌∙◌, ℕ, zero, suc, List, [], ◌∷◌, ◌++◌, length, map, take, drop, Some, Result, Ok, Err, refl, sym, ap, subst, arith, get_or}
-use Rattle.std.specs.Prelude.{Contains}
+use Rattle.std.proofs.Common.{◌≡◌, ◌<◌, ◌≤◌, ◌+◌, ◌∙◌, ℕ, zero, suc, List, [], ◌∷◌, ◌++◌, length, map, take, drop, Some, Result, Ok, Err, refl, sym, ap, subst, arith, get_or}
+use Rattle.std.specs.Prelude.{Contains, IfErr}
 use Rattle.std.proofs.lemmas.List.{drop_more, take-append-drop, take_all, take_more}
-use Rattle.image_kinds.specs.Reading.{image_in}
+use Rattle.image_kinds.specs.Reading.{IsReading, image_in}
+use Rattle.image_kinds.specs.declared.decode.StreamFault.{StreamFault}
+use Rattle.image_kinds.specs.declared.decode.StreamFault.TheVariants.{Bad, NoMemory}
 use Rattle.image_kinds.specs.declared.entry.Item.{Item}
 use Rattle.pool_journal.specs.Records.{Found}
-use Rattle.desk_model.specs.Restores.{image_before, images_in}
-use Rattle.site_desk.specs.Chains.{AreKept, StandThere}
+use Rattle.desk_model.specs.Restores.{image_before, images_in, last_bytes}
+use Rattle.site_desk.specs.Chains.{AreKept, IsBroken, StandThere}
 use Rattle.site_desk.specs.declared.extents.Extent.{Extent}
 
 -- The bytes of the images, of which each is that of its extent.
@@ -53,15 +55,15 @@ images_break (b ∷ front) bytes back images offset front_is is = at (image_in b
 
 -- Lists that grow by what was read.
 
-pub read_more : (records : List Found) (extents : List Extent) (chain : List (List ℕ)) (i : ℕ) (extent : Extent) (images images' : List (List ℕ)) (bytes : List ℕ) → i < length extents → extent ≡ get_or extents i extent
-    → AreKept records extents chain → images ≡ take i chain → ((place : Found) → Contains records place → extent.from ≡ place.from → extent.length ≡ length place.is.bytes → bytes ≡ place.is.bytes)
+pub read_more : (records : List Found) (extents : List Extent) (chain : List (List ℕ)) (i : ℕ) (extent : Extent) (images images' : List (List ℕ)) (bytes : List ℕ) → i < length extents
+    → AreKept records extents chain → images ≡ take i chain → ((place : Found) → Contains records place → (get_or extents i extent).from ≡ place.from → (get_or extents i extent).length ≡ length place.is.bytes → bytes ≡ place.is.bytes)
     → images' ≡ images ++ bytes ∷ [] → images' ≡ take (i + 1) chain
-read_more records extents chain i extent images images' bytes lt is kept so reads grows =
-    let here : StandThere records extent (get_or chain i bytes) = subst (λ (e : Extent). StandThere records e (get_or chain i bytes)) (sym is) (kept_here records extents chain i extent bytes kept lt) in
+read_more records extents chain i extent images images' bytes lt kept so reads grows =
+    let here : StandThere records (get_or extents i extent) (get_or chain i bytes) = kept_here records extents chain i extent bytes kept lt in
     let inside : i < length chain = omega (arith, lt, kept_length records extents chain kept) in
     grows ∙ (λ j. so j ++ (reads here.place here.among here.from here.size ∙ sym here.bytes_are) j ∷ []) ∙ sym (take_more chain i bytes inside)
 
-pub read_all : (records : List Found) (extents : List Extent) (chain : List (List ℕ)) (i : ℕ) (images : List (List ℕ)) → (i < length extents → ⊥) → AreKept records extents chain → images ≡ take i chain → images ≡ chain
+pub read_all : (records : List Found) (extents : List Extent) (chain : List (List ℕ)) (i : ℕ) (images : List (List ℕ)) → length extents ≤ i → AreKept records extents chain → images ≡ take i chain → images ≡ chain
 read_all records extents chain i images done kept so = so ∙ take_all i chain (let long = kept_length records extents chain kept in omega (arith, done, long))
 
 pub images_on : (all : List (List ℕ)) (i : ℕ) (bytes : List ℕ) (images images' : List (List Item)) (image : List Item) → i < length all → bytes ≡ get_or all i bytes → images_in (take i all) ≡ Ok images → image_in bytes ≡ Ok image → images' ≡ images ++ image ∷ [] → images_in (take (i + 1) all) ≡ Ok images'
@@ -75,5 +77,16 @@ images_stop all i bytes images offset lt is so breaks =
     sym (take-append-drop i all) ∙ ap (λ (l : List (List ℕ)). take i all ++ l) (drop_more all i bytes lt ∙ ap (λ (b : List ℕ). b ∷ drop (i + 1) all) (sym is)) in
     ap images_in split ∙ images_break (take i all) bytes (drop (i + 1) all) images offset so breaks
 
-pub images_end : (all : List (List ℕ)) (i : ℕ) (images : List (List Item)) → (i < length all → ⊥) → images_in (take i all) ≡ Ok images → images_in all ≡ Ok images
-images_end all i images done so = ap images_in (sym (take_all i all (omega (arith, done)))) ∙ so
+pub broken_on : {A : Type 0} (all : List (List ℕ)) (i : ℕ) (bytes read : List ℕ) (images : List (List Item)) (fault : StreamFault) (result : Result A StreamFault) → i < length all → bytes ≡ get_or all i bytes → read ≡ bytes → images_in (take i all) ≡ Ok images
+    → IsReading {A = List Item} (Err fault) (image_in read) → result ≡ Err fault → IfErr result (IsBroken (images_in all))
+broken_on {A} all i bytes read images fault result lt is read_is so breaks same = subst (λ (r : Result A StreamFault). IfErr r (IsBroken (images_in all))) (sym same) (at fault breaks)
+  where
+    at : (f : StreamFault) → IsReading {A = List Item} (Err f) (image_in read) → IsBroken (images_in all) f
+    at (Bad offset) here = images_stop all i bytes images offset lt is so (ap image_in (sym read_is) ∙ here)
+    at NoMemory here = tt
+
+-- The last of some bytes.
+pub last_push : (front : List (List ℕ)) (bytes : List ℕ) → last_bytes (front ++ bytes ∷ []) ≡ bytes
+last_push [] bytes = refl
+last_push (x ∷ []) bytes = refl
+last_push (x ∷ y ∷ front) bytes = last_push (y ∷ front) bytes

@@ -1,8 +1,10 @@
 -- Where the images of a restore of a moment stand.
-use Rattle.std.proofs.Common.{◌≡◌, ◌≢◌, ◌∙◌, ℕ, zero, suc, Bool, true, false, List, [], ◌∷◌, length, map, Option, Some, None, Result, Ok, Err, refl, sym, ap, subst, arith, unwrap_or}
+use Rattle.std.proofs.Common.{◌≡◌, ◌≢◌, ◌∙◌, ◌-◌, ◌++◌, drop, take, ℕ, zero, suc, Bool, true, false, List, [], ◌∷◌, length, map, Option, Some, None, Result, Ok, Err, refl, sym, ap, subst, arith, unwrap_or}
 use Rattle.std.specs.Prelude.{Contains, is_none, is_some, find, codes, nat_lt, not}
 use Rattle.std.specs.Result.{result_err, result_unwrap_or}
 use Rattle.std.proofs.lemmas.Bool.{false≢true}
+use Rattle.std.proofs.lemmas.List.{take-append-drop}
+use Rattle.std.proofs.lemmas.List.Elements.{Contains-append_right}
 use Rattle.site_types.specs.Classes.{RequestClass, site_change, site_file, backup, restore, restore_at, class_of, class_seen}
 use Rattle.site_types.specs.Limits.{payload_limit}
 use Rattle.site_types.specs.declared.answer.Answer.{Answer}
@@ -26,7 +28,7 @@ use Rattle.desk_rules.specs.declared.decision.Decision.{Decision}
 use Rattle.desk_rules.specs.Decisions.{IsDecision}
 use Rattle.desk_rules.specs.Seen.{blank, seen}
 use Rattle.desk_rules.proofs.SeenLemmas.{entries_seen}
-use Rattle.site_desk.specs.Chains.{AreKept, ArePlaced, StandThere, answer_given, files_under, last_one, wanted}
+use Rattle.site_desk.specs.Chains.{AreKept, ArePlaced, StandThere, answer_given, files_under, wanted}
 use Rattle.site_desk.specs.Desk.{looks_first, reads_first}
 use Rattle.site_desk.specs.Extents.{extent_of, IsKept}
 use Rattle.site_desk.specs.Index.{built, Remembers}
@@ -53,17 +55,17 @@ is_at request seen_as reads is other = at seen_as (ap looks_first is ∙ reads) 
 
 pub wanted_in : (files : Bool) (ids : List BackupId) (id : BackupId) → Contains (wanted files ids) id → Contains ids id
 wanted_in true ids id among = among
-wanted_in false ids id among = last_in ids among
-  where
-    last_in : (l : List BackupId) → Contains (last_one l) id → Contains l id
-    last_in [] there = there
-    last_in (x ∷ []) there = there
-    last_in (x ∷ y ∷ l) there = let found = last_in (y ∷ l) there in (suc found.0, let lt = found.1 in omega (arith, lt), found.2)
+wanted_in false ids id among = subst (λ (l : List BackupId). Contains l id) (take-append-drop (length ids - 1) ids) (Contains-append_right (take (length ids - 1) ids) (drop (length ids - 1) ids) id among)
 
-last_same : (images : List Image) (ids : List BackupId) → last_bytes (bytes_with images (last_one ids)) ≡ last_bytes (bytes_with images ids)
+last_from : (images : List Image) (n : ℕ) (ids : List BackupId) → suc n ≡ length ids → last_bytes (bytes_with images (drop n ids)) ≡ last_bytes (bytes_with images ids)
+last_from images n [] is = absurd (omega (arith, is))
+last_from images zero (id ∷ ids) is = refl
+last_from images (suc n) (id ∷ []) is = absurd (omega (arith, is))
+last_from images (suc n) (id ∷ next ∷ ids) is = last_from images n (next ∷ ids) (omega (arith, is))
+
+last_same : (images : List Image) (ids : List BackupId) → last_bytes (bytes_with images (drop (length ids - 1) ids)) ≡ last_bytes (bytes_with images ids)
 last_same images [] = refl
-last_same images (id ∷ []) = refl
-last_same images (id ∷ next ∷ ids) = last_same images (next ∷ ids)
+last_same images (id ∷ ids) = last_from images (length (id ∷ ids) - 1) (id ∷ ids) (omega arith)
 
 given_wanted : (files : Bool) (images : List Image) (ids : List BackupId) → given_by files (bytes_with images (wanted files ids)) ≡ given_by files (bytes_with images ids)
 given_wanted true images ids = refl

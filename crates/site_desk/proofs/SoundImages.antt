@@ -19,7 +19,7 @@ use Rattle.pool_journal.specs.Records.{Found, Reading, found, broken, foreign, r
 use Rattle.slp_tree.specs.Lifecycles.{version_named}
 use Rattle.policy_book.specs.Lists.{has}
 use Rattle.policy_book.specs.Book.{policy_name, client_limit}
-use Rattle.desk_model.specs.State.{State, initial, has_image}
+use Rattle.desk_model.specs.State.{State, Image, initial, has_image}
 use Rattle.desk_model.specs.Refusals.{first_refusal}
 use Rattle.desk_model.specs.Backups.{Asked, image_limit, takes_all, is_known, sealed_entry, sealed, backup_refusals, backup_done, image_asked}
 use Rattle.desk_model.specs.Settings.{is_setting, setting_refusals, set_by}

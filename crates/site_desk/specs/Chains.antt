@@ -1,5 +1,5 @@
 -- The images that a restore of a moment reads, and what they give back.
-use Rattle.std.specs.Prelude.{◌≡◌, ◌⊎◌, ℕ, Bool, true, false, List, [], ◌∷◌, length, Result, Ok, Err, unwrap_or, Contains}
+use Rattle.std.specs.Prelude.{◌≡◌, ◌⊎◌, ◌-◌, drop, ℕ, Bool, true, false, List, [], ◌∷◌, length, Result, Ok, Err, unwrap_or, Contains}
 use Rattle.site_types.specs.declared.answer.Answer.{Answer}
 use Rattle.site_types.specs.declared.answer.Answer.TheVariants.{Done, OutOfMemory, BadStream}
 use Rattle.site_types.specs.declared.id.BackupId.{BackupId}
@@ -24,14 +24,9 @@ abbrev pub files_under : List ℕ → Book → Bool
 files_under policy book = (unwrap_or (named policy_name policy book.policies) adhoc).files
 
 -- the images that are read: all of the chain, or the last alone
-abbrev pub last_one : List BackupId → List BackupId
-last_one [] = []
-last_one (id ∷ []) = id ∷ []
-last_one (id ∷ next ∷ ids) = last_one (next ∷ ids)
-
 abbrev pub wanted : Bool → List BackupId → List BackupId
 wanted true ids = ids
-wanted false ids = last_one ids
+wanted false ids = drop (length ids - 1) ids
 
 -- these bytes are those of a record, which stand there
 pub record StandThere (records : List Found) (extent : Extent) (bytes : List ℕ) : Type 0 where

@@ -69,7 +69,8 @@ pub fn locate_chain(
     let ids = match chain_at(alloc, &index.catalogue, policy, client, before) {
         Ok(ids) => ids,
         Err(ChainFault::NoMemory) => return Err(Answer::OutOfMemory),
-        Err(ChainFault::NoImage | ChainFault::Lacks(_)) => unreachable!(),
+        Err(ChainFault::NoImage) => unreachable!(),
+        Err(ChainFault::Lacks(_)) => unreachable!(),
     };
     let files = has_files(index, policy);
     match extents_of(alloc, index, wanted(&ids, files)) {
@@ -92,9 +93,10 @@ fn wanted(ids: &ListOf<BackupId>, files: bool) -> &[BackupId]
     ensures { result.now ≡ wanted files ids.now }
 {
     let ids = ids.as_slice();
-    match ids {
-        [.., last] if !files => std::slice::from_ref(last),
-        _ => ids,
+    if files {
+        ids
+    } else {
+        &ids[ids.len().saturating_sub(1)..]
     }
 }
 

@@ -13,4 +13,4 @@ pub returns-clause-taken : goal.returns-clause-taken
 returns-clause-taken c records images stored remembers =
     let is : c.args.image ≡ c.in-WholeImage.image = cc c.in-WholeImage.is in
     let takes : Takes c.args.image c.next_extent-extent.result c.args.index.now c.admit_image.new.index = subst (λ (w : WholeImage). Takes w c.next_extent-extent.result c.args.index.now c.admit_image.new.index) (sym is) c.in_ok-admit_image.ensures.taken in
-    taken_in records c.args.end images stored c.args.image c.args.payload.now c.next_extent-extent.result c.args.index.now c.admit_image.new.index c.requires.length c.next_extent-extent.ensures.from c.next_extent-extent.ensures.length remembers takes
+    taken_in records c.args.end images stored c.args.image c.args.bytes.now c.next_extent-extent.result c.args.index.now c.admit_image.new.index c.requires.length c.next_extent-extent.ensures.from c.next_extent-extent.ensures.length remembers takes

@@ -13,7 +13,7 @@ loop-extent-preserved g c =
       looked = λ told. looked_after _ _ _ (i.looked told) (c.read_bytes.ensures.looked (i.same.tells told)) i.same;
       rest = λ fs told at_rest. c.read_bytes.ensures.rest fs (i.same.tells told) (i.rest fs told at_rest);
       read = λ fs chain told at_rest kept.
-          read_more fs c.args.extents.now chain c.loop-extent.extent-index c.extent-item.result c.loop-extent.images.items c.push.new.self.items c.in_ok-read_bytes.field-0 c.loop-extent-test.true c.extent-item.is kept (i.read fs chain told at_rest kept)
+          read_more fs c.args.extents.now chain c.loop-extent.extent-index _ c.loop-extent.images.items c.push.new.self.items c.in_ok-read_bytes.field-0 c.loop-extent-test.true kept (i.read fs chain told at_rest kept)
           (λ place among from size. c.in_ok-read_bytes.ensures.bytes fs place (i.same.tells told) (i.rest fs told at_rest) among from size) c.in_ok-push.ensures.items;
     }
 
