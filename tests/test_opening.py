@@ -130,6 +130,15 @@ class Opening(DeskTest):
             with self.subTest(name):
                 self.is_refused(vault.journal(FIRST, image), GATE)
 
+    def test_a_record_of_segments_fits_in_no_state_yet(self):
+        end = bytes([vault.CLOSED])
+        stored = vault.backup_body(FIRST, [(0, b"hello")], [0])
+        copied = vault.copy_body(FIRST, 2, [(0, b"hello")], [0])
+        self.assertEqual(len(vault.HEADER + vault.gated(stored) + end), 139)
+        self.is_refused(vault.HEADER + vault.gated(stored) + end, 16)
+        for spelled in (stored, copied):
+            self.is_refused(vault.HEADER + vault.record(FIRST) + vault.gated(spelled) + end, GATE)
+
     def test_a_damaged_second_record_is_told_by_its_gate(self):
         self.is_refused(changed(BOTH, GATE + 5, 9), GATE)
         self.is_refused(vault.journal(FIRST, SECOND, THIRD._replace(policy=b"x")), vault.gates(FIRST, SECOND)[2])

@@ -1,5 +1,6 @@
 """The files of a vault, spelled and read by a small program of its own, which shares nothing with the desk."""
 
+import hashlib
 import struct
 from typing import NamedTuple
 
@@ -8,6 +9,8 @@ OPEN = 0xA5
 CLOSED = 0x00
 EMPTY = HEADER + bytes([CLOSED])
 SETTINGS = 1
+BACKUP_SEALED = 2
+COPY_SEALED = 3
 WHOLE_IMAGE = 7
 LATEST = 250_000_000_000
 
@@ -59,10 +62,10 @@ def settings_body(entry):
     return bytes([SETTINGS]) + struct.pack(">I", len(entry.lines)) + b"".join(map(string, entry.lines))
 
 
-def image_body(image):
+def image_fields(image):
+    """Returns what stands between the kind of an image's record and its bytes or segments."""
     return b"".join(
         [
-            bytes([WHOLE_IMAGE]),
             string(image.client),
             struct.pack(">Q", image.time),
             string(image.policy),
@@ -73,9 +76,30 @@ def image_body(image):
             struct.pack(">H", image.version),
             struct.pack(">Q", image.completed),
             struct.pack(">Q", len(image.payload)),
-            image.payload,
         ]
     )
+
+
+def image_body(image):
+    return bytes([WHOLE_IMAGE]) + image_fields(image) + image.payload
+
+
+def segments(new, slots):
+    """Returns the fields of a copy's segments: the slot and the bytes of each new one, and the slots of its pieces."""
+    added = [struct.pack(">II", slot, len(piece)) + hashlib.sha256(piece).digest() for slot, piece in new]
+    pieces = [struct.pack(">I", slot) for slot in slots]
+    return b"".join([struct.pack(">I", len(added)), *added, struct.pack(">I", len(pieces)), *pieces])
+
+
+def backup_body(image, new, slots):
+    """Returns the body of a backup whose bytes stand in segments."""
+    return bytes([BACKUP_SEALED]) + image_fields(image) + segments(new, slots)
+
+
+def copy_body(image, copy, new, slots):
+    """Returns the body of a further copy of an image, whose bytes stand in segments."""
+    fields = string(image.client) + struct.pack(">Q", image.time) + bytes([copy]) + struct.pack(">Q", image.completed)
+    return bytes([COPY_SEALED]) + fields + segments(new, slots)
 
 
 def gated(spelled):

@@ -1,9 +1,11 @@
 pub mod Common
 pub mod FieldLemmas
 pub mod Bytes
+pub mod Many
 pub mod Lines
 pub mod Reading
 pub mod Append
 pub mod Opening
 pub mod Suffixes
 pub mod ImageBytes
+pub mod Rows

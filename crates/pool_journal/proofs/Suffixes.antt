@@ -1,6 +1,7 @@
 -- What a record's body says last are its bytes: each field leaves an end of what it was read from.
-use Rattle.pool_journal.proofs.Common.{◌≡◌, ℕ, ◌≤◌, Bool, true, false, List, [], ◌∷◌, ◌++◌, length, take, drop, Some, None, refl, sym, ap, ◌∙◌, subst, arith, append_assoc, append-nil, length-append, take-append-drop, Option, option_and_then, option_map, nat_lt, ◌==◌, if◌then◌else◌, Width, w16, w64, byte_len, WholeImage, Field, byte_field, short_field, long_field, behind_length, string_field, named, name_field, kind_coded, kind_field, base_coded, base_field, both, Record, id_made, id_field, made_under_field, taken_as_field, version_field, moments_field, settings_field, whole_image_field, without_bytes, with_bytes, of_kind, record_of}
+use Rattle.pool_journal.proofs.Common.{◌≡◌, ℕ, ◌≤◌, Bool, true, false, List, [], ◌∷◌, ◌++◌, length, take, drop, Some, None, refl, sym, ap, ◌∙◌, subst, arith, append_assoc, append-nil, length-append, take-append-drop, Option, option_and_then, option_map, nat_lt, ◌==◌, if◌then◌else◌, Width, w16, w64, byte_len, WholeImage, Field, byte_field, short_field, long_field, behind_length, string_field, named, name_field, kind_coded, kind_field, base_coded, base_field, both, Record, id_made, id_field, made_under_field, taken_as_field, version_field, moments_field, settings_field, backup_field, backup_entry, stored_copy_field, copy_entry, whole_image_field, alone, with_bytes, of_kind, record_of, Entry}
 use Rattle.site_types.specs.Names.{is_name}
+use Rattle.pool_journal.specs.declared.entry.Entry.TheVariants as entry
 use Rattle.site_types.specs.Fields.{number_field}
 
 -- some bytes end with these
@@ -83,20 +84,22 @@ image_leaves bytes =
     (λ e. step rest_of (moments_field e.1) _ e.1 (both_leave long_field long_field (number_leaves w64) (number_leaves w64) e.1)
     (λ f. all f.1)))))
 
--- and so does a record of either kind
+-- and so does a record of each kind
 abbrev bytes_of : Record → List ℕ
 bytes_of r = r.bytes
 
-settings_leave : (bytes : List ℕ) (o : Option (List (List ℕ) × List ℕ)) → Ends bytes (left bytes_of (option_and_then without_bytes o))
-settings_leave bytes None = none bytes
-settings_leave bytes (Some (lines, [])) = none bytes
-settings_leave bytes (Some (lines, b ∷ rest)) = none bytes
+alone_leaves : {A : Type 0} (made : A → Entry) (bytes : List ℕ) (o : Option (A × List ℕ)) → Ends bytes (left bytes_of (option_and_then (alone made) o))
+alone_leaves made bytes None = none bytes
+alone_leaves made bytes (Some (fields, [])) = none bytes
+alone_leaves made bytes (Some (fields, b ∷ rest)) = none bytes
 
 record_leaves : (body : List ℕ) → Ends body (left bytes_of (record_of body))
 record_leaves body =
     step bytes_of (byte_field body) of_kind body (byte_leaves body)
-    (λ p. chosen bytes_of (p.0 == 1) _ _ p.1 (settings_leave p.1 (settings_field p.1))
-    (chosen bytes_of (p.0 == 7) _ None p.1 (step bytes_of (whole_image_field p.1) with_bytes p.1 (image_leaves p.1) (λ q. chosen bytes_of (q.0.length == length q.1) _ None q.1 (all q.1) (none q.1))) (none p.1)))
+    (λ p. chosen bytes_of (p.0 == 1) _ _ p.1 (alone_leaves entry.Settings p.1 (settings_field p.1))
+    (chosen bytes_of (p.0 == 2) _ _ p.1 (alone_leaves backup_entry p.1 (backup_field p.1))
+    (chosen bytes_of (p.0 == 3) _ _ p.1 (alone_leaves copy_entry p.1 (stored_copy_field p.1))
+    (chosen bytes_of (p.0 == 7) _ None p.1 (step bytes_of (whole_image_field p.1) with_bytes p.1 (image_leaves p.1) (λ q. chosen bytes_of (q.0.length == length q.1) _ None q.1 (all q.1) (none q.1))) (none p.1)))))
 
 -- a record's bytes end its body
 pub bytes_end : (body : List ℕ) (r : Record) → record_of body ≡ Some r → Ends body r.bytes

@@ -3,14 +3,16 @@ use Rattle.std.specs.Prelude.{◌≡◌, ◌≢◌, ℕ, ◌+◌, ◌^◌, ◌<�
 use Rattle.std.specs.Int.{w16, w32, w64, to_be_bytes}
 use Rattle.site_types.specs.Names.{is_name}
 pub use Rattle.site_types.specs.declared.id.BackupId.{BackupId}
-use Rattle.pool_journal.specs.Fields.{string, strings, kind_code, base_code, Field, byte_field, short_field, count_field, long_field, strings_field, name_field, kind_field, base_field, both, Kind, Base, FieldFault, Broken, NoMemory}
+use Rattle.pool_journal.specs.Fields.{string, strings, kind_code, base_code, Field, byte_field, short_field, long_field, string_field, counted_field, name_field, kind_field, base_field, both, Kind, Base, FieldFault, Broken, NoMemory}
 pub use Rattle.pool_journal.specs.declared.entry.Entry.{Entry}
 pub use Rattle.pool_journal.specs.declared.entry.WholeImage.{WholeImage}
 use Rattle.pool_journal.specs.declared.entry.Parsed.{Parsed}
+pub use Rattle.pool_journal.specs.declared.segments.Segments.{Segments}
+use Rattle.pool_journal.specs.Segments.{spelled_segments, segments_field, AreCounted, SegmentsFit}
 use Rattle.site_types.specs.declared.image.Base.TheVariants as base
 use Rattle.pool_journal.specs.declared.entry.Entry.TheVariants as entry
 
--- a record: an entry, and for a whole image its bytes; behind settings there are none
+-- a record: an entry, and for a whole image its bytes; behind the others there are none
 pub record Record : Type 0 where
   pub entry : Entry
   pub bytes : List ℕ
@@ -39,8 +41,14 @@ spelled_image image =
 abbrev pub spelled_settings : List (List ℕ) → List ℕ
 spelled_settings lines = to_be_bytes w32 (length lines) ++ strings lines
 
+-- the copy's number and its completion
+abbrev pub spelled_copy : ℕ → ℕ → List ℕ
+spelled_copy copy completed = copy ∷ to_be_bytes w64 completed
+
 abbrev pub spelled_entry : Entry → List ℕ
 spelled_entry (entry.Settings lines) = 1 ∷ spelled_settings lines
+spelled_entry (entry.BackupSealed image segments) = 2 ∷ spelled_image image ++ spelled_segments segments
+spelled_entry (entry.CopySealed id copy completed segments) = 3 ∷ spelled_id id ++ spelled_copy copy completed ++ spelled_segments segments
 spelled_entry (entry.WholeImage image) = 7 ∷ spelled_image image
 
 -- the body of a record
@@ -89,19 +97,43 @@ whole_image_field bytes =
     (made_under_field a.1)) (id_field bytes)
 
 abbrev pub settings_field : Field (List (List ℕ))
-settings_field bytes = option_and_then (λ p. strings_field p.0 p.1) (count_field bytes)
+settings_field = counted_field string_field
 
--- nothing stands behind the lines of a settings record
-abbrev pub without_bytes : List (List ℕ) × List ℕ → Option Record
-without_bytes (lines, []) = Some (record { entry = entry.Settings lines; bytes = [] })
-without_bytes (lines, byte ∷ bytes) = None
+abbrev pub backup_field : Field (WholeImage × Segments)
+backup_field = both whole_image_field segments_field
+
+abbrev pub copied_as_field : Field (ℕ × ℕ)
+copied_as_field = both byte_field long_field
+
+abbrev pub copy_field : Field (BackupId × (ℕ × ℕ))
+copy_field = both id_field copied_as_field
+
+abbrev pub stored_copy_field : Field ((BackupId × (ℕ × ℕ)) × Segments)
+stored_copy_field = both copy_field segments_field
+
+-- the entries that these make
+abbrev pub backup_entry : WholeImage × Segments → Entry
+backup_entry p = entry.BackupSealed p.0 p.1
+
+abbrev pub copy_entry : (BackupId × (ℕ × ℕ)) × Segments → Entry
+copy_entry p = entry.CopySealed p.0.0 p.0.1.0 p.0.1.1 p.1
+
+-- an entry behind which nothing stands
+abbrev pub alone : {A : Type 0} → (A → Entry) → A × List ℕ → Option Record
+alone made (fields, []) = Some (record { entry = made fields; bytes = [] })
+alone made (fields, byte ∷ bytes) = None
 
 -- a whole image's bytes stand behind its fields, as many as they say
 abbrev pub with_bytes : WholeImage × List ℕ → Option Record
 with_bytes (image, bytes) = if image.length == length bytes then Some (record { entry = entry.WholeImage image; bytes = bytes }) else None
 
 abbrev pub of_kind : ℕ × List ℕ → Option Record
-of_kind (kind, rest) = if kind == 1 then option_and_then without_bytes (settings_field rest) else (if kind == 7 then option_and_then with_bytes (whole_image_field rest) else None)
+of_kind (kind, rest) =
+    if kind == 1 then option_and_then (alone entry.Settings) (settings_field rest)
+    else (if kind == 2 then option_and_then (alone backup_entry) (backup_field rest)
+    else (if kind == 3 then option_and_then (alone copy_entry) (stored_copy_field rest)
+    else (if kind == 7 then option_and_then with_bytes (whole_image_field rest)
+    else None)))
 
 -- the record that a body spells, where it spells one
 abbrev pub record_of : List ℕ → Option Record
@@ -115,9 +147,11 @@ AllShort (line ∷ lines) = (length line < 2 ^ 16) × AllShort lines
 abbrev pub AreLines : List (List ℕ) → Type 0
 AreLines lines = (length lines < 2 ^ 32) × AllShort lines
 
--- An entry that can be spelled. Of settings the lines are short, and nothing stands behind them; of a whole image the number of its bytes is right, and a base is no moment 0, which spells none.
+-- An entry that can be spelled. Of settings the lines are short, and of segments the numbers fit into four bytes; of a whole image the number of its bytes is right, and nothing stands behind the others. A base is no moment 0, which spells none.
 abbrev pub IsFormed : Entry → List ℕ → Type 0
 IsFormed (entry.Settings lines) bytes = AreLines lines × (bytes ≡ [])
+IsFormed (entry.BackupSealed image segments) bytes = AreCounted segments × (image.base ≢ base.Time 0) × (bytes ≡ [])
+IsFormed (entry.CopySealed id copy completed segments) bytes = AreCounted segments × (bytes ≡ [])
 IsFormed (entry.WholeImage image) bytes = (image.length ≡ length bytes) × (image.base ≢ base.Time 0)
 
 -- a record that can be written
@@ -130,13 +164,27 @@ IsEntry (Ok p) body = (bytes : List ℕ) × (record_of body ≡ Some (record { e
 IsEntry (Err (Broken left)) body = record_of body ≡ None
 IsEntry (Err NoMemory) body = Unit {0}
 
+-- an entry behind which this stands in a body of this size was taken as one behind which nothing may stand
+abbrev pub IsAlone : Result Parsed FieldFault → Entry → List ℕ → ℕ → Type 0
+IsAlone (Ok p) e rest size = (rest ≡ []) × (p ≡ record { entry = e; size = size; left = 0 })
+IsAlone (Err (Broken left)) e rest size = rest ≢ []
+IsAlone (Err NoMemory) e rest size = ⊥
+
 -- the fields of an entry have the ranges of their types: names are names, and numbers fit
 abbrev pub IsNamed : List ℕ → Type 0
 IsNamed name = is_name name ≡ true
 
+pub record IdFits (id : BackupId) : Type 0 where
+  pub client : IsNamed id.client
+  pub time : id.time < 2 ^ 64
+
+pub record CopyFits (id : BackupId) (copy completed : ℕ) : Type 0 where
+  pub named : IdFits id
+  pub number : copy < 2 ^ 8
+  pub moment : completed < 2 ^ 64
+
 pub record ImageFits (image : WholeImage) : Type 0 where
-  pub client : IsNamed image.id.client
-  pub time : image.id.time < 2 ^ 64
+  pub id : IdFits image.id
   pub policy : IsNamed image.policy
   pub schedule : IsNamed image.schedule
   pub base : base_code image.base < 2 ^ 64
@@ -147,11 +195,15 @@ pub record ImageFits (image : WholeImage) : Type 0 where
 
 abbrev pub IsSpellable : Entry → Type 0
 IsSpellable (entry.Settings lines) = Unit {0}
+IsSpellable (entry.BackupSealed image segments) = ImageFits image × SegmentsFit segments
+IsSpellable (entry.CopySealed id copy completed segments) = CopyFits id copy completed × SegmentsFit segments
 IsSpellable (entry.WholeImage image) = ImageFits image
 
--- the fields of an image are short: their numbers and lengths take 44 bytes, and four names at most 64 each
+-- the fields of a whole image are short: their numbers and lengths take 44 bytes, and four names at most 64 each
 abbrev pub HasShortFields : Entry → Type 0
 HasShortFields (entry.Settings lines) = Unit {0}
+HasShortFields (entry.BackupSealed image segments) = Unit {0}
+HasShortFields (entry.CopySealed id copy completed segments) = Unit {0}
 HasShortFields (entry.WholeImage image) = length (spelled_entry (entry.WholeImage image)) ≤ 300
 
 -- these bytes are a record's that can be written, and that is read as it is spelled

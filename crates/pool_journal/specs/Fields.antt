@@ -66,13 +66,20 @@ base_field bytes = option_and_then base_coded (long_field bytes)
 abbrev pub both : {A B : Type 0} → Field A → Field B → Field (A × B)
 both first second bytes = option_and_then (λ p. option_and_then (λ q. Some ((p.0, q.0), q.1)) (second p.1)) (first bytes)
 
--- so many strings, one behind another
-abbrev pub text_first : List ℕ → List (List ℕ) × List ℕ → List (List ℕ) × List ℕ
-text_first text (texts, rest) = (text ∷ texts, rest)
+-- so many of a field, one behind another
+abbrev pub one_first : {A : Type 0} → A → List A × List ℕ → List A × List ℕ
+one_first x (xs, rest) = (x ∷ xs, rest)
+
+abbrev pub many_field : {A : Type 0} → Field A → ℕ → Field (List A)
+many_field field zero bytes = Some ([], bytes)
+many_field field (suc count) bytes = option_and_then (λ p. option_map (one_first p.0) (many_field field count p.1)) (field bytes)
+
+-- and behind their number
+abbrev pub counted_field : {A : Type 0} → Field A → Field (List A)
+counted_field field bytes = option_and_then (λ p. many_field field p.0 p.1) (count_field bytes)
 
 abbrev pub strings_field : ℕ → Field (List (List ℕ))
-strings_field zero bytes = Some ([], bytes)
-strings_field (suc count) bytes = option_and_then (λ p. option_map (text_first p.0) (strings_field count p.1)) (string_field bytes)
+strings_field = many_field string_field
 
 -- a field was read: what stood there, and the bytes behind it
 abbrev pub IsField : {A : Type 0} → Result A FieldFault → Option (A × List ℕ) → List ℕ → Type 0

@@ -1,4 +1,5 @@
 pub mod Fields
+pub mod Segments
 pub mod Entries
 pub mod Records
 pub mod Stops

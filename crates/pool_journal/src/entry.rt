@@ -4,9 +4,10 @@
 // answered alike. So the journal need not know the requests, and a line is read once.
 ghost use Rattle.std.specs.Prelude.{◌≡◌, IfOk, Ok};
 ghost use Rattle.pool_journal.specs.Fields.{IsField};
-ghost use Rattle.pool_journal.specs.Entries.{id_field, made_under_field, taken_as_field, version_field, moments_field, settings_field, whole_image_field, IsEntry};
+ghost use Rattle.pool_journal.specs.Entries.{id_field, made_under_field, taken_as_field, version_field, moments_field, settings_field, backup_field, copied_as_field, copy_field, stored_copy_field, whole_image_field, IsAlone, IsEntry};
 
 use crate::fields::{read_base, read_kind, read_name, read_strings};
+use crate::segments::{Segments, read_segments};
 use site_types::{BackupId, Base, FieldFault, Fields, Kind, ListOf, Name, Text};
 use std::alloc::Global;
 
@@ -14,7 +15,21 @@ use std::alloc::Global;
 #[derive(Debug, Drop)]
 pub enum Entry {
     /// The site was changed by requests, each given by its line.
-    Settings { lines: ListOf<Text> },
+    Settings {
+        lines: ListOf<Text>,
+    },
+    /// A backup was sealed, and its bytes stand in segments.
+    BackupSealed {
+        image: WholeImage,
+        segments: Segments,
+    },
+    /// A copy of an image was sealed, with its number and the moment, in seconds since 1970-01-01T00:00:00Z.
+    CopySealed {
+        id: BackupId,
+        copy: u8,
+        completed: u64,
+        segments: Segments,
+    },
     /// An image was sealed, and its bytes stand in the record behind these fields.
     WholeImage(WholeImage),
 }
@@ -103,6 +118,41 @@ fn read_whole_image(fields: &mut Fields, alloc: Global) -> Result<WholeImage, Fi
     })
 }
 
+fn read_backup(fields: &mut Fields, alloc: Global) -> Result<(WholeImage, Segments), FieldFault>
+    ensures { IsField result (backup_field fields.old) fields.new }
+{
+    let image = read_whole_image(fields, alloc)?;
+    let segments = read_segments(fields, alloc)?;
+    Ok((image, segments))
+}
+
+fn read_number_and_completed(fields: &mut Fields) -> Result<(u8, u64), FieldFault>
+    ensures { IsField result (copied_as_field fields.old) fields.new }
+{
+    let copy = fields.byte()?;
+    let completed = fields.long()?;
+    Ok((copy, completed))
+}
+
+fn read_copy(fields: &mut Fields, alloc: Global) -> Result<(BackupId, (u8, u64)), FieldFault>
+    ensures { IsField result (copy_field fields.old) fields.new }
+{
+    let id = read_id(fields, alloc)?;
+    let copied_as = read_number_and_completed(fields)?;
+    Ok((id, copied_as))
+}
+
+fn read_stored_copy(
+    fields: &mut Fields,
+    alloc: Global,
+) -> Result<((BackupId, (u8, u64)), Segments), FieldFault>
+    ensures { IsField result (stored_copy_field fields.old) fields.new }
+{
+    let copy = read_copy(fields, alloc)?;
+    let segments = read_segments(fields, alloc)?;
+    Ok((copy, segments))
+}
+
 /// An entry that was read.
 #[derive(Drop)]
 pub struct Parsed {
@@ -110,6 +160,20 @@ pub struct Parsed {
     /// The bytes of the body that it took, and those that are left.
     pub size: usize,
     pub left: usize,
+}
+
+// An entry behind which nothing may stand in its record's body, which has this size.
+fn alone(entry: Entry, rest: &[u8], size: usize) -> Result<Parsed, FieldFault>
+    ensures { IsAlone result entry rest.now size }
+{
+    if !rest.is_empty() {
+        return Err(FieldFault::Broken(rest.len()));
+    }
+    Ok(Parsed {
+        entry,
+        size,
+        left: 0,
+    })
 }
 
 /// The entry that a record's body spells.
@@ -120,14 +184,22 @@ pub fn read_entry(alloc: Global, body: &[u8]) -> Result<Parsed, FieldFault>
     match fields.byte()? {
         1 => {
             let lines = read_settings(&mut fields, alloc)?;
-            if !fields.rest().is_empty() {
-                return Err(FieldFault::Broken(fields.rest().len()));
-            }
-            Ok(Parsed {
-                entry: Entry::Settings { lines },
-                size: body.len(),
-                left: 0,
-            })
+            alone(Entry::Settings { lines }, fields.rest(), body.len())
+        }
+        2 => {
+            let (image, segments) = read_backup(&mut fields, alloc)?;
+            let entry = Entry::BackupSealed { image, segments };
+            alone(entry, fields.rest(), body.len())
+        }
+        3 => {
+            let ((id, (copy, completed)), segments) = read_stored_copy(&mut fields, alloc)?;
+            let entry = Entry::CopySealed {
+                id,
+                copy,
+                completed,
+                segments,
+            };
+            alone(entry, fields.rest(), body.len())
         }
         7 => {
             let image = read_whole_image(&mut fields, alloc)?;

@@ -20,7 +20,7 @@ fn read_text(fields: &mut Fields, alloc: Global) -> Result<Text, FieldFault>
 }
 
 /// So many strings.
-#[tactic(auto, using(crate::proofs::Lines::read_broken))]
+#[tactic(auto, using(crate::proofs::Many::read_broken))]
 pub fn read_strings(
     fields: &mut Fields,
     alloc: Global,

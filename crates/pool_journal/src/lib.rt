@@ -9,6 +9,7 @@ mod fields;
 mod journal;
 mod open;
 mod records;
+mod segments;
 mod size;
 mod spelling;
 
@@ -17,3 +18,4 @@ pub use fault::JournalFault;
 pub use journal::{Journal, Staged};
 pub use open::Opened;
 pub use records::Placed;
+pub use segments::{NewSegment, Segments};

@@ -1,10 +1,11 @@
 // How much an entry takes in its record.
-ghost use Rattle.std.specs.Prelude.{◌≡◌, ◌+◌, ◌-◌, ◌^◌, ◌<◌, ◌≤◌, min, length};
+ghost use Rattle.std.specs.Prelude.{◌≡◌, ◌+◌, ◌-◌, ◌^◌, ◌<◌, ◌≤◌, ◌++◌, ℕ, min, length};
 ghost use Rattle.pool_journal.specs.Fields.{strings};
-ghost use Rattle.pool_journal.specs.Entries.{spelled_entry, spelled_image, HasShortFields};
+ghost use Rattle.pool_journal.specs.Entries.{spelled_copy, spelled_entry, spelled_id, spelled_image, HasShortFields};
 
 use crate::entry::{Entry, WholeImage};
-use site_types::Text;
+use crate::segments::segments_size;
+use site_types::{BackupId, Text};
 
 // The kind, the numbers of a whole image, and the lengths of its names.
 const WITHOUT_NAMES: u64 = 44;
@@ -20,6 +21,13 @@ fn image_size(image: &WholeImage) -> u64
     WITHOUT_NAMES + names as u64
 }
 
+// The kind, the id, the copy's number and its completion.
+fn copy_size(id: &BackupId) -> u64
+    ensures { (copy completed : ℕ) → result ≡ 1 + length (spelled_id id.now ++ spelled_copy copy completed) }
+{
+    20 + id.client.bytes().len() as u64
+}
+
 // The lines with their lengths.
 fn strings_size(texts: &[Text]) -> u64
     ensures { result ≡ min (length (strings texts.now)) (2 ^ 64 - 1) }
@@ -33,13 +41,19 @@ fn strings_size(texts: &[Text]) -> u64
 }
 
 impl Entry {
-    /// The number of bytes that it takes in a record, before the bytes of a whole image. An image takes at most 300.
+    /// The number of bytes that it takes in a record, before the bytes of a whole image. A whole image takes at most 300.
     pub fn size(&self) -> u64
         ensures size { length (spelled_entry self.now) < 2 ^ 64 → result ≡ length (spelled_entry self.now) }
         ensures short { HasShortFields self.now }
     {
         match self {
             Entry::Settings { lines } => strings_size(lines.as_slice()).saturating_add(5),
+            Entry::BackupSealed { image, segments } => {
+                segments_size(segments).saturating_add(image_size(image))
+            }
+            Entry::CopySealed { id, segments, .. } => {
+                segments_size(segments).saturating_add(copy_size(id))
+            }
             Entry::WholeImage(image) => image_size(image),
         }
     }

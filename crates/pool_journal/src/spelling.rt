@@ -2,9 +2,10 @@
 ghost use Rattle.std.specs.Prelude.{◌≡◌, ◌++◌, ◌∷◌, [], ◌<◌, ◌^◌, ℕ, List, length, OnOk, IfOk};
 ghost use Rattle.std.specs.Int.{w16, w32, w64, to_be_bytes};
 ghost use Rattle.pool_journal.specs.Fields.{string, strings, kind_code, base_code};
-ghost use Rattle.pool_journal.specs.Entries.{spelled_settings, spelled_id, spelled_names, spelled_kind_and_base, spelled_lifecycle, spelled_longs, spelled_image, spelled_entry, AllShort, AreLines, IsNamed, ImageFits, IsFormed, IsSpellable};
+ghost use Rattle.pool_journal.specs.Entries.{spelled_settings, spelled_id, spelled_names, spelled_kind_and_base, spelled_lifecycle, spelled_longs, spelled_copy, spelled_image, spelled_entry, AllShort, AreLines, CopyFits, IdFits, IsNamed, ImageFits, IsFormed, IsSpellable};
 
 use crate::entry::{Entry, WholeImage};
+use crate::segments::push_segments;
 use site_types::{BackupId, Base, Kind, Name, NoMemory, Text};
 use std::alloc::Global;
 
@@ -69,7 +70,7 @@ fn base_code(base: Base) -> u64
 
 fn push_id(out: &mut Vec<u8>, id: &BackupId) -> Result<(), NoMemory>
     ensures spelled { OnOk result (out.new.items ≡ out.old.items ++ spelled_id id.now) }
-    ensures fits { OnOk result (IsNamed id.now.client × (id.now.time < 2 ^ 64)) }
+    ensures fits { OnOk result (IdFits id.now) }
 {
     push_name(out, &id.client)?;
     push_long(out, id.time)
@@ -118,6 +119,15 @@ fn push_image(out: &mut Vec<u8>, image: &WholeImage) -> Result<(), NoMemory>
     push_longs(out, image.completed, image.length)
 }
 
+fn push_copy(out: &mut Vec<u8>, id: &BackupId, copy: u8, completed: u64) -> Result<(), NoMemory>
+    ensures spelled { OnOk result (out.new.items ≡ out.old.items ++ spelled_id id.now ++ spelled_copy copy completed) }
+    ensures fits { OnOk result (CopyFits id.now copy completed) }
+{
+    push_id(out, id)?;
+    out.extend_from_slice(&[copy])?;
+    push_long(out, completed)
+}
+
 pub fn spell_entry(alloc: Global, entry: &Entry) -> Result<Vec<u8>, NoMemory>
     requires { (bytes : List ℕ) × IsFormed entry.now bytes }
     ensures spelled { IfOk result (λ v. v.items ≡ spelled_entry entry.now) }
@@ -128,6 +138,21 @@ pub fn spell_entry(alloc: Global, entry: &Entry) -> Result<Vec<u8>, NoMemory>
         Entry::Settings { lines } => {
             out.extend_from_slice(&[1])?;
             push_settings(&mut out, lines.as_slice())?;
+        }
+        Entry::BackupSealed { image, segments } => {
+            out.extend_from_slice(&[2])?;
+            push_image(&mut out, image)?;
+            push_segments(&mut out, segments)?;
+        }
+        Entry::CopySealed {
+            id,
+            copy,
+            completed,
+            segments,
+        } => {
+            out.extend_from_slice(&[3])?;
+            push_copy(&mut out, id, *copy, *completed)?;
+            push_segments(&mut out, segments)?;
         }
         Entry::WholeImage(image) => {
             out.extend_from_slice(&[7])?;

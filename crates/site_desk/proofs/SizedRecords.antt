@@ -9,22 +9,23 @@ use Rattle.site_types.specs.declared.image.Base.{Base}
 use Rattle.site_types.specs.declared.image.Kind.{Kind}
 use Rattle.site_types.specs.declared.image.Base.TheVariants as base
 use Rattle.site_types.proofs.OptionLemmas.{chained}
+use Rattle.pool_journal.specs.declared.entry.Entry.{Entry}
 use Rattle.pool_journal.specs.declared.entry.Entry.TheVariants as entry
 use Rattle.pool_journal.specs.declared.entry.WholeImage.{WholeImage}
 use Rattle.pool_journal.specs.Fields.{byte_field, long_field, kind_field, base_field, base_code, base_coded}
-use Rattle.pool_journal.specs.Entries.{Record, record_of, of_kind, without_bytes, with_bytes, settings_field, id_field, made_under_field, taken_as_field, version_field, moments_field, whole_image_field}
+use Rattle.pool_journal.specs.Entries.{Record, record_of, of_kind, alone, with_bytes, settings_field, backup_field, backup_entry, stored_copy_field, copy_entry, id_field, made_under_field, taken_as_field, version_field, moments_field, whole_image_field}
 use Rattle.pool_journal.specs.Records.{header, Found, Reading, found, broken, foreign, with_record, records, reading}
 use Rattle.site_desk.specs.Replays.{IsRead, AreRead}
 
 abbrev IsSized : Record → Type 0
 IsSized r = IsRead r.entry (length r.bytes)
 
-settings_sized : (o : Option (List (List ℕ) × List ℕ)) (r : Record) → option_and_then without_bytes o ≡ Some r → IsSized r
-settings_sized None r is = absurd (cc is)
-settings_sized (Some (lines, [])) r is =
-    let same : record { entry = entry.Settings lines; bytes = [] } ≡ r = cc is in
-    subst IsSized same tt
-settings_sized (Some (lines, byte ∷ bytes)) r is = absurd (cc is)
+alone_sized : {A : Type 0} (made : A → Entry) → ((fields : A) → IsRead (made fields) 0) → (o : Option (A × List ℕ)) (r : Record) → option_and_then (alone made) o ≡ Some r → IsSized r
+alone_sized made each None r is = absurd (cc is)
+alone_sized made each (Some (fields, [])) r is =
+    let same : record { entry = made fields; bytes = [] } ≡ r = cc is in
+    subst IsSized same (each fields)
+alone_sized made each (Some (fields, byte ∷ bytes)) r is = absurd (cc is)
 
 image_sized : (o : Option (WholeImage × List ℕ)) (r : Record) → option_and_then with_bytes o ≡ Some r → IsSized r
 image_sized None r is = absurd (cc is)
@@ -40,14 +41,21 @@ image_sized (Some (image, bytes)) r is = at (image.length == length bytes) refl 
 record_sized : (body : List ℕ) (r : Record) → record_of body ≡ Some r → IsSized r
 record_sized body r is = at (byte_field body) is
   where
-    kinds : (one seven : Bool) (rest : List ℕ) → (if one then option_and_then without_bytes (settings_field rest) else (if seven then option_and_then with_bytes (whole_image_field rest) else None)) ≡ Some r → IsSized r
-    kinds true seven rest made = settings_sized (settings_field rest) r made
-    kinds false true rest made = image_sized (whole_image_field rest) r made
-    kinds false false rest made = absurd (cc made)
+    kinds : (one two three seven : Bool) (rest : List ℕ)
+        → (if one then option_and_then (alone entry.Settings) (settings_field rest)
+        else (if two then option_and_then (alone backup_entry) (backup_field rest)
+        else (if three then option_and_then (alone copy_entry) (stored_copy_field rest)
+        else (if seven then option_and_then with_bytes (whole_image_field rest)
+        else None)))) ≡ Some r → IsSized r
+    kinds true two three seven rest made = alone_sized entry.Settings (λ lines. tt) (settings_field rest) r made
+    kinds false true three seven rest made = alone_sized backup_entry (λ fields. tt) (backup_field rest) r made
+    kinds false false true seven rest made = alone_sized copy_entry (λ fields. tt) (stored_copy_field rest) r made
+    kinds false false false true rest made = image_sized (whole_image_field rest) r made
+    kinds false false false false rest made = absurd (cc made)
 
     at : (o : Option (ℕ × List ℕ)) → option_and_then of_kind o ≡ Some r → IsSized r
     at None made = absurd (cc made)
-    at (Some (kind, rest)) made = kinds (kind == 1) (kind == 7) rest made
+    at (Some (kind, rest)) made = kinds (kind == 1) (kind == 2) (kind == 3) (kind == 7) rest made
 
 -- the records of a reading, up to one that is broken
 abbrev pub found_in : Reading → List Found

@@ -106,6 +106,8 @@ fits_by s w size fits =
 
 entry_sound : (s : State) (e : Entry) (bytes : List ℕ) (t : State) → IsRead e (length bytes) → Sound s → apply_entry s e bytes ≡ Some t → Sound t
 entry_sound s (entry.Settings lines) bytes t is_read sound is = lines_sound lines s t sound is
+entry_sound s (entry.BackupSealed image segments) bytes t is_read sound is = absurd (cc is)
+entry_sound s (entry.CopySealed id copy completed segments) bytes t is_read sound is = absurd (cc is)
 entry_sound s (entry.WholeImage w) bytes t is_read sound is =
     let done = guarded (image_fits s w) (Some (sealed (whole_image s w bytes) (whole_unit s w) s)) t is in
     let same : sealed (whole_image s w bytes) (whole_unit s w) s ≡ t = cc done.1 in

@@ -13,9 +13,11 @@ use Rattle.desk_model.specs.Settings.{is_setting}
 use Rattle.site_desk.specs.Index.{built, Remembers}
 use Rattle.site_desk.specs.declared.index.Index.{Index}
 
--- the entry of an image tells how many bytes stand behind it
+-- the entry of a whole image tells how many bytes stand behind it
 abbrev pub IsRead : Entry → ℕ → Type 0
 IsRead (entry.Settings lines) size = Unit {0}
+IsRead (entry.BackupSealed image segments) size = Unit {0}
+IsRead (entry.CopySealed id copy completed segments) size = Unit {0}
 IsRead (entry.WholeImage w) size = w.length ≡ size
 
 -- each record is so

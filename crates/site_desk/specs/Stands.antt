@@ -66,9 +66,11 @@ abbrev pub settled : State → List (List ℕ) → Option State
 settled s [] = Some s
 settled s (line ∷ lines) = option_and_then (λ t. settled t lines) (settled_by s line)
 
--- the state after one record, where it fits
+-- the state after one record, where it fits; one of segments fits in no state, until there are pools that hold them
 abbrev pub apply_entry : State → Entry → List ℕ → Option State
 apply_entry s (entry.Settings lines) bytes = settled s lines
+apply_entry s (entry.BackupSealed image segments) bytes = None
+apply_entry s (entry.CopySealed id copy completed segments) bytes = None
 apply_entry s (entry.WholeImage w) bytes = if image_fits s w then Some (sealed (whole_image s w bytes) (whole_unit s w) s) else None
 
 abbrev pub apply : State → Record → Option State

@@ -144,6 +144,8 @@ fn replay_record(alloc: Global, index: &mut Index, placed: &Placed) -> Result<bo
 {
     match &placed.entry {
         Entry::Settings { lines } => settle_lines(alloc, index, lines.as_slice()),
+        Entry::BackupSealed { .. } => Ok(false),
+        Entry::CopySealed { .. } => Ok(false),
         Entry::WholeImage(image) => {
             let extent = Extent {
                 from: placed.from,

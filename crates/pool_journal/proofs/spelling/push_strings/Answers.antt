@@ -1,6 +1,7 @@
-use Rattle.pool_journal.proofs.Common.{◌≡◌, slice_index_or, sym, subst, ℕ, List, append-nil}
+use Rattle.pool_journal.proofs.Common.{◌≡◌, slice_index_or, sym, subst, ℕ, List, append-nil, string}
 use Rattle.std.proofs.Common.{take_all}
-use Rattle.pool_journal.proofs.Lines.{short_at, pushed_more}
+use Rattle.pool_journal.proofs.Lines.{short_at}
+use Rattle.pool_journal.proofs.Many.{pushed_more}
 use Rattle.pool_journal.proofs.spelling.push_strings.Goals as goal
 
 pub loop-text-init : goal.loop-text-init
@@ -11,7 +12,7 @@ push_string-requires c = rw c.bytes.ensures (short_at c.args.texts.now c.loop-te
 
 pub loop-text-preserved : goal.loop-text-preserved
 loop-text-preserved c =
-    pushed_more c.loop-text.out.items c.push_string.new.out.items c.args.out.now.items c.args.texts.now c.loop-text.text-index c.bytes.result.now c.loop-text-test.true (subst (λ (l : List ℕ). l ≡ slice_index_or c.args.texts.now c.loop-text.text-index l) (sym c.bytes.ensures) c.text-item.is)
+    pushed_more string c.loop-text.out.items c.push_string.new.out.items c.args.out.now.items c.args.texts.now c.loop-text.text-index c.bytes.result.now c.loop-text-test.true (subst (λ (l : List ℕ). l ≡ slice_index_or c.args.texts.now c.loop-text.text-index l) (sym c.bytes.ensures) c.text-item.is)
     c.loop-text.invariant c.in_ok-push_string.ensures
 
 pub returns : goal.returns
