@@ -136,6 +136,15 @@ class Mistakes(DeskTest):
         ran = subprocess.run([PROGRAM], input=b"", capture_output=True, timeout=desk.PATIENCE)
         self.assertEqual((ran.returncode, ran.stdout, ran.stderr), (2, b"", told("* a folder and a request are missing")))
 
+    def test_a_folder_that_was_left_out(self):
+        for words, first in ((["bpbackup", "client=a"], b"client=a"), (["client", "add", "name=a"], b"add"), (["session"], None)):
+            with self.subTest(words):
+                ran = subprocess.run([PROGRAM, *words], input=b"", capture_output=True, timeout=desk.PATIENCE)
+                self.assertEqual((ran.returncode, ran.stdout), (2, b"bad request at 0\n"))
+                why = b"a request is missing" if first is None else b"word 0, %s: there is no such request" % first
+                taken = b"%s was taken for the folder of the vault, which stands before a request" % words[0].encode()
+                self.assertEqual(ran.stderr, USAGE + b"bpdesk: %s\nbpdesk: %s\n" % (why, taken))
+
     def test_a_line_on_a_word_stays_one_line(self):
         for word in ("a\nb", "a\tb", "\x1b[2J", "n" * 100_000):
             with self.subTest(word=word[:20]):

@@ -1,4 +1,5 @@
 use crate::mistakes::{explain, usage};
+use crate::table::FORMS;
 use site_types::Text;
 use std::io::Eprint;
 
@@ -23,9 +24,18 @@ pub fn tell(
             if let Ok(Some(text)) = explain(rt.alloc(), words, payload) {
                 let _ = eprint!(rt; "{text}");
             }
+            if begins_a_request(folder) {
+                let _ = eprintln!(rt;
+                    "bpdesk: {folder} was taken for the folder of the vault, which stands before a request"
+                );
+            }
         }
         _ => {}
     }
+}
+
+fn begins_a_request(word: &str) -> bool {
+    word == "session" || FORMS.iter().any(|form| form.words.first() == Some(&word))
 }
 
 /// Tells a person how the program is called, and what is missing.
