@@ -1,5 +1,5 @@
 -- Reading what was spelled, field by field.
-use Rattle.pool_journal.proofs.Common.{◌≡◌, ◌≢◌, inl, inr, ℕ, ◌<◌, ◌^◌, List, [], ◌∷◌, ◌++◌, length, Some, None, true, refl, sym, ◌∙◌, ap, suc, arith, append_assoc, length-append, option_map, nat_lt, ◌==◌, if◌then◌else◌, take_at, drop_at, append-nil, nat_tests, from_be_bytes-to_be_bytes_2, from_be_bytes-to_be_bytes_4, from_be_bytes-to_be_bytes_8, w16, w32, w64, to_be_bytes, WholeImage, Ok, Err, Result, OnOk, le-ltb, cases_eq, cond-false, string, strings, kind_code, base_code, Field, short_field, count_field, long_field, strings_field, string_field, name_field, kind_field, base_coded, base_field, both, byte_field, Kind, Full, Differential, Cumulative, Base, Record, spelled_id, spelled_names, spelled_kind_and_base, spelled_lifecycle, spelled_longs, spelled_image, spelled_settings, spelled_entry, body_of, id_made, id_field, made_under_field, taken_as_field, version_field, moments_field, settings_field, whole_image_field, record_of, AllShort, AreLines, IsFormed, IsSpellable, Entry, IdFits, many_field, counted_field, AreCounted, NewSegment, SegmentFits, Segments, SegmentsFit, SlotFits, backup_field, copied_as_field, copy_field, stored_copy_field, counted, segment_field, segment_made, segments_field, segments_made, spelled_copy, spelled_segment, spelled_segments, spelled_slot}
+use Rattle.pool_journal.proofs.Common.{◌≡◌, ◌≢◌, inl, inr, ℕ, ◌<◌, ◌^◌, List, [], ◌∷◌, ◌++◌, length, Some, None, true, refl, sym, ◌∙◌, ap, suc, arith, append_assoc, length-append, option_map, nat_lt, ◌==◌, if◌then◌else◌, take_at, drop_at, append-nil, nat_tests, from_be_bytes-to_be_bytes_2, from_be_bytes-to_be_bytes_4, from_be_bytes-to_be_bytes_8, w16, w32, w64, to_be_bytes, WholeImage, le-ltb, cases_eq, cond-false, string, strings, kind_code, base_code, Field, short_field, count_field, long_field, strings_field, string_field, name_field, kind_field, base_coded, base_field, both, byte_field, Kind, Full, Differential, Cumulative, Base, Record, spelled_id, spelled_names, spelled_kind_and_base, spelled_lifecycle, spelled_longs, spelled_image, spelled_settings, spelled_entry, body_of, id_made, id_field, made_under_field, taken_as_field, version_field, moments_field, settings_field, whole_image_field, record_of, AllShort, AreLines, IsFormed, IsSpellable, Entry, IdFits, many_field, counted_field, AreCounted, NewSegment, SegmentFits, Segments, SegmentsFit, SlotFits, backup_field, copied_as_field, copy_field, stored_copy_field, counted, segment_field, segment_made, segments_field, segments_made, spelled_copy, spelled_segment, spelled_segments, spelled_slot}
 use Rattle.std.specs.Prelude.{All, flat_map}
 use Rattle.std.proofs.lemmas.List.Elements.{All-head, All-tail}
 use Rattle.site_types.specs.Fields.{bytes_field}
@@ -139,13 +139,6 @@ record_of-body r = at r.entry r.bytes
     at (entry.BackupSealed image segments) bytes can formed = rw (formed.2, backup-spelled image segments [] can formed.1 formed.0) refl
     at (entry.CopySealed id copy completed segments) bytes can formed = rw (formed.1, copy-spelled id copy completed segments [] can formed.0) refl
     at (entry.WholeImage image) bytes can formed = rw (image-spelled image bytes can formed.1) (chosen image.length (length bytes) _ None formed.0)
-
--- five parts pushed one behind another
-pub five_pushed : {T E : Type 0} (r : Result T E) (o a b c d e n1 n2 n3 n4 n5 : List ℕ) → n1 ≡ o ++ a → n2 ≡ n1 ++ b → n3 ≡ n2 ++ c → n4 ≡ n3 ++ d → OnOk r (n5 ≡ n4 ++ e) → OnOk r (n5 ≡ o ++ (a ++ b ++ c ++ d ++ e))
-five_pushed (Err x) o a b c d e n1 n2 n3 n4 n5 p q r s t = t
-five_pushed (Ok v) o a b c d e n1 n2 n3 n4 n5 p q r s t =
-    let last : n5 ≡ n4 ++ e = t in
-    rw (last, s, r, q, p) (simp append_assoc)
 
 pub whole_image_read : (body rest bytes : List ℕ) (image : WholeImage) → byte_field body ≡ Some (7, rest) → whole_image_field rest ≡ Some (image, bytes) → image.length ≡ length bytes
     → record_of body ≡ Some (record { entry = entry.WholeImage image; bytes = bytes })

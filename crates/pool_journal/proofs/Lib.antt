@@ -2,6 +2,7 @@ pub mod Common
 pub mod FieldLemmas
 pub mod Bytes
 pub mod Many
+pub mod Rooms
 pub mod Lines
 pub mod Reading
 pub mod Append

@@ -2,19 +2,21 @@
 //
 // A record is staged and then written. `stage` takes all of its memory and `write` none, and between them the desk changes what
 // it knows, which may find no memory too: so nothing but the disk fails once it has changed. The image's bytes are taken apart
-// from the entry, since an entry that owned them would need a copy of up to 67,108,864 bytes. A record past the limits of its
-// numbers, a line of 65,536 bytes or a record of 4,294,967,296, can't be staged: the caller answers that memory ran out.
-ghost use Rattle.std.specs.Prelude.{◌≡◌, ◌+◌, List, length, Contains, IfOk, OnOk, OnErr, IfErr, IsErrOf};
+// from the entry, since an entry that owned them would need a copy of up to 67,108,864 bytes. Where the record isn't known yet
+// when memory is taken, as that of pieces whose slots the disk will show, a `Room` is taken, and `stage_in` takes none.
+ghost use Rattle.std.specs.Prelude.{◌≡◌, ◌+◌, List, [], length, Contains, IfOk, OnOk, OnErr, IfErr, IsErrOf};
 ghost use Rattle.vault_disk.specs.Disk.{IsSame};
 ghost use Rattle.vault_disk.specs.Steps.{LookedAround, Rose};
-ghost use Rattle.pool_journal.specs.Entries.{Record, spelled_entry, IsWritable, IsStaged};
+ghost use Rattle.pool_journal.specs.Entries.{Record, body_of, spelled_entry, staged_record, IsWritable, IsStaged};
+ghost use Rattle.pool_journal.specs.Rooms.{Fits};
 ghost use Rattle.pool_journal.specs.Records.{Found};
 ghost use Rattle.pool_journal.specs.Stops.{AtRest, Appended, Stops, IsOfAppend};
 
 use crate::entry::Entry;
 use crate::fault::JournalFault;
 use crate::records::OPEN;
-use crate::spelling::spell_entry;
+use crate::room::Room;
+use crate::spelling::push_entry;
 use site_types::{NoMemory, Text};
 use std::alloc::Global;
 use std::marker::Model;
@@ -48,6 +50,14 @@ impl Model for Staged {
     ghost view = { λ s. s.bytes.items };
 }
 
+// The number of bytes of a record behind its gate, with the closed gate of the next.
+fn staged_size(entry: &Entry, bytes: &[u8]) -> u64
+    requires { IsWritable (record { entry = entry.now; bytes = bytes.now }) }
+    ensures { result ≡ length (staged_record (body_of (record { entry = entry.now; bytes = bytes.now }))) }
+{
+    entry.size() + bytes.len() as u64 + 5
+}
+
 impl Journal {
     /// The journal whose closed gate is at this offset.
     pub fn at(end: u64) -> Journal
@@ -68,14 +78,26 @@ impl Journal {
         requires { IsWritable (record { entry = entry.now; bytes = bytes.now }) }
         ensures { IfOk result (IsStaged (record { entry = entry.now; bytes = bytes.now })) }
     {
-        let spelled = spell_entry(alloc, entry)?;
-        let size = spelled.len() + bytes.len();
-        let mut record = Vec::with_capacity(alloc, size + 5)?;
-        record.extend_from_slice(&(size as u32).to_be_bytes())?;
-        record.extend_from_slice(&spelled)?;
-        record.extend_from_slice(bytes)?;
-        record.extend_from_slice(&[0])?;
-        Ok(Staged { bytes: record })
+        let room = Room::reserve(alloc, staged_size(entry, bytes))?;
+        Ok(Journal::stage_in(room, entry, bytes))
+    }
+
+    /// Puts a record together in memory that was taken for it. It isn't written yet.
+    pub fn stage_in(room: Room, entry: &Entry, bytes: &[u8]) -> Staged
+        requires writable { IsWritable (record { entry = entry.now; bytes = bytes.now }) }
+        requires room { Fits room (staged_record (body_of (record { entry = entry.now; bytes = bytes.now }))) }
+        requires empty { room.bytes ≡ [] }
+        ensures { IsStaged (record { entry = entry.now; bytes = bytes.now }) result }
+    {
+        let mut record = room;
+        let size = entry.size() + bytes.len() as u64;
+        record.push(&(size as u32).to_be_bytes());
+        push_entry(&mut record, entry);
+        record.push(bytes);
+        record.push(&[0]);
+        Staged {
+            bytes: record.into_bytes(),
+        }
     }
 
     /// Adds a record that was staged. It is on the disk when this returns. After a disk fault the journal is opened again.

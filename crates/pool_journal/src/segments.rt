@@ -1,11 +1,13 @@
 // The segments of a sealed copy.
-ghost use Rattle.std.specs.Prelude.{◌≡◌, ◌<◌, ◌^◌, ◌-◌, ◌++◌, List, ℕ, All, min, length, flat_map, OnOk};
+ghost use Rattle.std.specs.Prelude.{◌≡◌, ◌<◌, ◌^◌, ◌-◌, ◌++◌, List, ℕ, All, min, length, flat_map};
 ghost use Rattle.std.specs.Int.{w32, to_be_bytes};
 ghost use Rattle.site_types.specs.Fields.{IsTaken, bytes_field};
 ghost use Rattle.pool_journal.specs.Fields.{IsField, count_field, counted_field, many_field};
+ghost use Rattle.pool_journal.specs.Rooms.{Fits, Gets};
 ghost use Rattle.pool_journal.specs.Segments.{AreCounted, SegmentFits, SegmentsFit, SlotFits, counted, segment_field, segments_field, spelled_segment, spelled_segments, spelled_slot};
 
-use site_types::{Ended, FieldFault, Fields, ListOf, NoMemory};
+use crate::room::Room;
+use site_types::{Ended, FieldFault, Fields, ListOf};
 use std::alloc::Global;
 
 /// A segment that no slot of its unit's pool held before.
@@ -92,53 +94,56 @@ pub fn read_segments(fields: &mut Fields, alloc: Global) -> Result<Segments, Fie
     Ok(Segments { added, pieces })
 }
 
-fn push_number(out: &mut Vec<u8>, number: u32) -> Result<(), NoMemory>
-    ensures spelled { OnOk result (out.new.items ≡ out.old.items ++ to_be_bytes w32 number) }
+fn push_number(out: &mut Room, number: u32)
+    requires room { Fits out.old (to_be_bytes w32 number) }
+    ensures spelled { Gets (to_be_bytes w32 number) out.old out.new }
     ensures fits { number < 2 ^ 32 }
 {
-    out.extend_from_slice(&number.to_be_bytes())
+    out.push(&number.to_be_bytes());
 }
 
-fn push_segment(out: &mut Vec<u8>, segment: &NewSegment) -> Result<(), NoMemory>
-    ensures spelled { OnOk result (out.new.items ≡ out.old.items ++ spelled_segment segment.now) }
-    ensures fits { OnOk result (SegmentFits segment.now) }
+fn push_segment(out: &mut Room, segment: &NewSegment)
+    requires room { Fits out.old (spelled_segment segment.now) }
+    ensures spelled { Gets (spelled_segment segment.now) out.old out.new }
+    ensures fits { SegmentFits segment.now }
 {
-    push_number(out, segment.slot)?;
-    push_number(out, segment.length)?;
-    out.extend_from_slice(&segment.digest)
+    push_number(out, segment.slot);
+    push_number(out, segment.length);
+    out.push(&segment.digest);
 }
 
-fn push_added(out: &mut Vec<u8>, added: &[NewSegment]) -> Result<(), NoMemory>
-    ensures spelled { OnOk result (out.new.items ≡ out.old.items ++ flat_map spelled_segment added.now) }
-    ensures fits { OnOk result (All SegmentFits added.now) }
+fn push_added(out: &mut Room, added: &[NewSegment])
+    requires room { Fits out.old (flat_map spelled_segment added.now) }
+    ensures spelled { Gets (flat_map spelled_segment added.now) out.old out.new }
+    ensures fits { All SegmentFits added.now }
 {
     for segment in added {
-        push_segment(out, segment)?;
+        push_segment(out, segment);
     }
-    Ok(())
 }
 
-fn push_pieces(out: &mut Vec<u8>, pieces: &[u32]) -> Result<(), NoMemory>
-    ensures spelled { OnOk result (out.new.items ≡ out.old.items ++ flat_map spelled_slot pieces.now) }
-    ensures fits { OnOk result (All SlotFits pieces.now) }
+fn push_pieces(out: &mut Room, pieces: &[u32])
+    requires room { Fits out.old (flat_map spelled_slot pieces.now) }
+    ensures spelled { Gets (flat_map spelled_slot pieces.now) out.old out.new }
+    ensures fits { All SlotFits pieces.now }
 {
     for slot in pieces {
-        push_number(out, *slot)?;
+        push_number(out, *slot);
     }
-    Ok(())
 }
 
-pub fn push_segments(out: &mut Vec<u8>, segments: &Segments) -> Result<(), NoMemory>
-    requires { AreCounted segments.now }
-    ensures spelled { OnOk result (out.new.items ≡ out.old.items ++ spelled_segments segments.now) }
-    ensures fits { OnOk result (SegmentsFit segments.now) }
+pub fn push_segments(out: &mut Room, segments: &Segments)
+    requires counted { AreCounted segments.now }
+    requires room { Fits out.old (spelled_segments segments.now) }
+    ensures spelled { Gets (spelled_segments segments.now) out.old out.new }
+    ensures fits { SegmentsFit segments.now }
 {
     let added = segments.added.as_slice();
     let pieces = segments.pieces.as_slice();
-    push_number(out, added.len() as u32)?;
-    push_added(out, added)?;
-    push_number(out, pieces.len() as u32)?;
-    push_pieces(out, pieces)
+    push_number(out, added.len() as u32);
+    push_added(out, added);
+    push_number(out, pieces.len() as u32);
+    push_pieces(out, pieces);
 }
 
 // Two numbers of four bytes, and a digest.
