@@ -5,8 +5,8 @@ use std::alloc::{AllocError, Global};
 use std::sync::Wait;
 use std::sync::atomic::{AtomicU64, Ordering};
 use std::test::Fail;
-use std::thread;
 use std::thread::Threads;
+use std::{hint, thread};
 
 const LIMIT: u64 = 1_000_000;
 
@@ -70,16 +70,18 @@ fn two_seats_and_a_note(rt: HostRuntime) -> Result<(), Fail> {
 
 #[test]
 fn a_call_fails_and_the_next_one_opens_again(rt: HostRuntime) -> Result<(), Fail> {
-    let Ok((turn, mut seats)) = Turn::new(rt.alloc(), counter(&rt, &[2], true)?, 2) else {
-        panic!(rt; "no memory")
-    };
-    let mut b = seats.pop().expect(&rt, "two seats");
-    let mut a = seats.pop().expect(&rt, "two seats");
-    let first = turn.call(&rt, rt.alloc(), &mut a, &5u64);
-    let second = turn.call(&rt, rt.alloc(), &mut b, &7u64);
-    let third = turn.call(&rt, rt.alloc(), &mut a, &1u64);
-    assert!(rt; (first.number, second.number, third.number) == (1, 2, 3));
-    assert!(rt; second.answer == Counted::Failed && third.answer == Counted::Now(13));
+    for (acts, count) in [(true, 13), (false, 6)] {
+        let Ok((turn, mut seats)) = Turn::new(rt.alloc(), counter(&rt, &[2], acts)?, 2) else {
+            panic!(rt; "no memory")
+        };
+        let mut b = seats.pop().expect(&rt, "two seats");
+        let mut a = seats.pop().expect(&rt, "two seats");
+        let first = turn.call(&rt, rt.alloc(), &mut a, &5u64);
+        let second = turn.call(&rt, rt.alloc(), &mut b, &7u64);
+        let third = turn.call(&rt, rt.alloc(), &mut a, &1u64);
+        assert!(rt; (first.number, second.number, third.number) == (1, 2, 3));
+        assert!(rt; second.answer == Counted::Failed && third.answer == Counted::Now(count));
+    }
     Ok(())
 }
 
@@ -90,7 +92,7 @@ fn begin(begun: &AtomicU64) {
         if begun.load(Ordering::SeqCst) >= u64::from(SEATS) {
             return;
         }
-        thread::yield_now();
+        hint::spin_loop();
     }
 }
 
