@@ -31,7 +31,8 @@ impl Counter {
     /// A counter that stands at 0. Its calls, steps and openings alike, have the numbers 1, 2, and so on, and those in the list
     /// fail. A step that fails adds its amount where `acts` is set.
     pub fn new(limit: u64, failing: Vec<u64>, acts: bool) -> Counter
-        ensures { (result.count ≡ 0) × (result.limit ≡ limit) × (result.stopped ≡ false) × (result.faults ≡ 0) }
+        ensures starts { (result.count ≡ 0) × (result.limit ≡ limit) × (result.stopped ≡ false) × (result.faults ≡ 0) }
+        ensures fails { (result.calls ≡ 0) × (result.failing ≡ failing) × (result.acts ≡ acts) }
     {
         Counter {
             count: 0,

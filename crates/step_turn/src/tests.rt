@@ -3,15 +3,19 @@ ghost use Rattle.std.specs.Prelude.{◌≡◌, false, All, IfOk};
 use crate::{Counted, Counter, Seat, Turn};
 use std::alloc::{AllocError, Global};
 use std::sync::Wait;
+use std::sync::atomic::{AtomicU64, Ordering};
 use std::test::Fail;
-use std::thread;
 use std::thread::Threads;
+use std::{hint, thread};
 
 const LIMIT: u64 = 1_000_000;
 
 const SEATS: u32 = 8;
 
 const CALLS: u64 = 1_000;
+
+// How often a thread that has begun looks whether all have.
+const LOOKS: u32 = 1_000_000;
 
 // A call of the counter, as its caller saw it.
 #[derive(Drop)]
@@ -66,28 +70,43 @@ fn two_seats_and_a_note(rt: HostRuntime) -> Result<(), Fail> {
 
 #[test]
 fn a_call_fails_and_the_next_one_opens_again(rt: HostRuntime) -> Result<(), Fail> {
-    let Ok((turn, mut seats)) = Turn::new(rt.alloc(), counter(&rt, &[2], true)?, 2) else {
-        panic!(rt; "no memory")
-    };
-    let mut b = seats.pop().expect(&rt, "two seats");
-    let mut a = seats.pop().expect(&rt, "two seats");
-    let first = turn.call(&rt, rt.alloc(), &mut a, &5u64);
-    let second = turn.call(&rt, rt.alloc(), &mut b, &7u64);
-    let third = turn.call(&rt, rt.alloc(), &mut a, &1u64);
-    assert!(rt; (first.number, second.number, third.number) == (1, 2, 3));
-    assert!(rt; second.answer == Counted::Failed && third.answer == Counted::Now(13));
+    for (acts, count) in [(true, 13), (false, 6)] {
+        let Ok((turn, mut seats)) = Turn::new(rt.alloc(), counter(&rt, &[2], acts)?, 2) else {
+            panic!(rt; "no memory")
+        };
+        let mut b = seats.pop().expect(&rt, "two seats");
+        let mut a = seats.pop().expect(&rt, "two seats");
+        let first = turn.call(&rt, rt.alloc(), &mut a, &5u64);
+        let second = turn.call(&rt, rt.alloc(), &mut b, &7u64);
+        let third = turn.call(&rt, rt.alloc(), &mut a, &1u64);
+        assert!(rt; (first.number, second.number, third.number) == (1, 2, 3));
+        assert!(rt; second.answer == Counted::Failed && third.answer == Counted::Now(count));
+    }
     Ok(())
 }
 
-// Calls from one seat, with amounts that differ from call to call and from seat to seat.
+// Waits until all threads have begun, so that their calls meet. Where they can't all run at once it goes on after a while.
+fn begin(begun: &AtomicU64) {
+    begun.fetch_add(1, Ordering::SeqCst);
+    for _ in 0..LOOKS {
+        if begun.load(Ordering::SeqCst) >= u64::from(SEATS) {
+            return;
+        }
+        hint::spin_loop();
+    }
+}
+
+// Calls from one seat, with amounts that differ from call to call and from seat to seat. They begin when all threads have begun.
 fn calls_from<R: Wait>(
     rt: &R,
     alloc: Global,
     turn: &Turn<Counter>,
     mut seat: Seat<u64, Counted>,
+    begun: &AtomicU64,
 ) -> Result<Vec<Made>, AllocError>
     requires { seat.turn ≡ turn.now.id }
 {
+    begin(begun);
     let mut made = Vec::new(alloc);
     let first = seat.number() % 64;
     for call in 0..CALLS {
@@ -112,7 +131,9 @@ fn calls_from_each<R: Threads + Wait + Sync>(
     requires { All (λ seat. seat.turn ≡ turn.now.id) seats.items }
 {
     let mut made = Vec::new(alloc);
-    for calls in thread::map_vec(rt, seats, &|seat| calls_from(rt, alloc, turn, seat))? {
+    let begun = AtomicU64::new(0);
+    let all = thread::map_vec(rt, seats, &|seat| calls_from(rt, alloc, turn, seat, &begun))?;
+    for calls in all {
         made.append(&mut calls?)?;
     }
     Ok(made)
