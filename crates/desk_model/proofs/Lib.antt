@@ -1,6 +1,7 @@
 pub mod Common
 mod FileRows
 mod Rows
+pub mod ShortLines
 pub mod ClassLemmas
 pub mod NamedLemmas
 pub mod PieceLemmas
