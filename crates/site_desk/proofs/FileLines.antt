@@ -1,5 +1,5 @@
 -- The lines of a site file: each but the first, which may set the zone, is of a form that adds something to the book.
-use Rattle.desk_model.proofs.Common.{capacity_key, fragment_key, high_key, low_key, name_key, segment_key, slots_key, ◌≡◌, ◌≤◌, ◌+◌, ◌∙◌, ℕ, Bool, true, false, List, [], ◌∷◌, ◌++◌, codes, length, drop, refl, sym, ap, subst, arith, Option, Some, None, Result, Ok, Err, option_map, option_and_then, false≢true, Request, State, IsSoundBook, form_named, unit_add_of, all_set}
+use Rattle.desk_model.proofs.Common.{capacity_key, fragment_key, high_key, low_key, name_key, segment_key, slots_key, ◌≡◌, ◌≤◌, ◌∙◌, ℕ, Bool, true, false, List, [], ◌∷◌, ◌++◌, codes, length, drop, refl, sym, ap, subst, arith, Option, Some, None, Result, Ok, Err, option_map, option_and_then, false≢true, Request, State, IsSoundBook, form_named, unit_add_of, all_set}
 use Rattle.std.specs.List.{list_all}
 use Rattle.std.specs.Result.{result_ok}
 use Rattle.std.proofs.lemmas.Bool.{and_from, and_parts}
