@@ -1,6 +1,8 @@
 pub mod Common
 mod FileRows
 mod Rows
+pub mod ShortLines
+pub mod FewRequests
 pub mod ClassLemmas
 pub mod NamedLemmas
 pub mod PieceLemmas

@@ -1,7 +1,6 @@
 -- bprestore: of an image by its id, and of a client under a policy as it was at a moment.
 use Rattle.std.specs.Prelude.{ℕ, ◌+◌, ◌==◌, Bool, true, false, not, is_none, is_some, nat_lt, List, [], ◌∷◌, length, map, codes, Option, Some, None, unwrap_or, Result, Ok, Err}
 use Rattle.std.specs.List.{list_any}
-use Rattle.std.specs.Option.{option_map_or}
 use Rattle.std.specs.Result.{result_err, result_unwrap_or}
 use Rattle.site_types.specs.Ids.{copy_text, id_text}
 use Rattle.site_types.specs.Limits.{payload_limit}

@@ -1,13 +1,11 @@
 -- Where the images of a restore of a moment stand.
-use Rattle.std.proofs.Common.{◌≡◌, ◌≢◌, ◌∙◌, ◌-◌, ◌++◌, drop, take, ℕ, zero, suc, Bool, true, false, List, [], ◌∷◌, length, map, Option, Some, None, Result, Ok, Err, refl, sym, ap, subst, arith, unwrap_or}
-use Rattle.std.specs.Prelude.{Contains, is_none, is_some, find, codes, nat_lt, not}
+use Rattle.std.proofs.Common.{◌≡◌, ◌≢◌, ◌∙◌, ◌-◌, drop, take, ℕ, zero, suc, Bool, true, false, List, [], ◌∷◌, length, map, Option, Some, None, Result, Ok, Err, refl, sym, ap, subst, arith, unwrap_or}
+use Rattle.std.specs.Prelude.{Contains, is_none, is_some}
 use Rattle.std.specs.Result.{result_err, result_unwrap_or}
 use Rattle.std.proofs.lemmas.Bool.{false≢true}
 use Rattle.std.proofs.lemmas.List.{take-append-drop}
 use Rattle.std.proofs.lemmas.List.Elements.{Contains-append_right}
-use Rattle.site_types.specs.Classes.{RequestClass, site_change, site_file, backup, restore, restore_at, class_of, class_seen}
-use Rattle.site_types.specs.Limits.{payload_limit}
-use Rattle.site_types.specs.declared.answer.Answer.{Answer}
+use Rattle.site_types.specs.Classes.{RequestClass, restore_at, class_of, class_seen}
 use Rattle.site_types.specs.declared.answer.Answer.TheVariants.{Done, BadStream}
 use Rattle.site_types.specs.declared.class.ByClass.{ByClass}
 use Rattle.site_types.specs.declared.class.ByClass.TheVariants as by
@@ -18,15 +16,14 @@ use Rattle.pool_journal.specs.Records.{Found}
 use Rattle.image_catalogue.specs.Images.{record_named, same_id}
 use Rattle.restore_engine.specs.Chains.{Chain, chain_at}
 use Rattle.restore_engine.proofs.ReferenceLemmas.{chain_kept}
-use Rattle.desk_model.specs.State.{State, Image, Stored, entries, image_named}
-use Rattle.desk_model.specs.Refusals.{Case, first_refusal, unless_refused, step_of}
-use Rattle.desk_model.specs.Restores.{bytes_of, bytes_with, chain_asked, given_by, has_files, ids_of, last_bytes, missing_of, restore_at_case, total}
-use Rattle.desk_model.specs.Step.{case_of, step}
+use Rattle.desk_model.specs.State.{State, Image, Stored, image_named}
+use Rattle.desk_model.specs.Refusals.{first_refusal, unless_refused}
+use Rattle.desk_model.specs.Restores.{bytes_of, bytes_with, chain_asked, given_by, has_files, ids_of, last_bytes, missing_of, restore_at_case}
 use Rattle.desk_model.proofs.ImageLists.{same_self}
 use Rattle.desk_model.proofs.Passing.{all_passed, none_passes}
 use Rattle.desk_rules.specs.declared.decision.Decision.{Decision}
 use Rattle.desk_rules.specs.Decisions.{IsDecision}
-use Rattle.desk_rules.specs.Seen.{blank, seen}
+use Rattle.desk_rules.specs.Seen.{seen}
 use Rattle.desk_rules.proofs.SeenLemmas.{entries_seen}
 use Rattle.site_desk.specs.Chains.{AreKept, ArePlaced, StandThere, answer_given, files_under, wanted}
 use Rattle.site_desk.specs.Desk.{looks_first, reads_first}

@@ -1,22 +1,19 @@
 -- A restore of a moment reads its images and answers what they give back.
-use Rattle.std.proofs.Common.{◌≡◌, ◌≢◌, ◌∙◌, inl, inr, ℕ, true, List, [], ◌∷◌, ◌++◌, length, Result, Ok, Err, refl, sym, ap, subst}
-use Rattle.std.specs.Prelude.{Bool, Contains}
-use Rattle.site_types.specs.Classes.{RequestClass, class_of}
+use Rattle.std.proofs.Common.{◌≡◌, ◌≢◌, ◌∙◌, inl, inr, ℕ, true, List, Result, Ok, Err, refl, sym, ap, subst}
+use Rattle.site_types.specs.Classes.{class_of}
 use Rattle.site_types.specs.declared.answer.Answer.{Answer}
 use Rattle.site_types.specs.declared.answer.Answer.TheVariants.{Done, OutOfMemory, BadStream, DiskFault}
 use Rattle.site_types.specs.declared.request.Request.{Request}
 use Rattle.vault_disk.specs.Disk.{Disk, IsSame, Now}
 use Rattle.vault_disk.specs.Steps.{LookedAround}
 use Rattle.vault_disk.proofs.Moments.{goes_on, weaker}
-use Rattle.pool_journal.specs.Records.{Found}
 use Rattle.desk_model.specs.State.{State}
 use Rattle.desk_model.specs.Restores.{given_by}
 use Rattle.desk_model.specs.Step.{step}
-use Rattle.site_desk.specs.Chains.{AreKept, ArePlaced, IsGiven, StandThere, answer_given}
-use Rattle.site_desk.specs.Desk.{desk_state, Answered, IsOfStep, Kept, MayFail, Moved, looks_first, reads_first}
+use Rattle.site_desk.specs.Chains.{ArePlaced, IsGiven, answer_given}
+use Rattle.site_desk.specs.Desk.{desk_state, IsOfStep, Kept, MayFail, reads_first}
 use Rattle.site_desk.specs.Steps.{Steps}
 use Rattle.site_desk.specs.declared.chain.Places.{Places}
-use Rattle.site_desk.specs.declared.extents.Extent.{Extent}
 use Rattle.site_desk.specs.declared.index.Index.{Index}
 use Rattle.site_desk.proofs.Restoring.{start, stays_steps}
 

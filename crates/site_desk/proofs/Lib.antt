@@ -7,6 +7,7 @@ pub mod Deciding
 pub mod ExtentLemmas
 pub mod ImageLemmas
 pub mod IndexLemmas
+pub mod FileLines
 pub mod Loading
 pub mod SiteChanges
 pub mod SizedRecords

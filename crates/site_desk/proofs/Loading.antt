@@ -1,11 +1,15 @@
 -- The requests of a site file, all of them or none.
 use Rattle.std.proofs.Common.{◌≡◌, ◌≢◌, ⊎_elim, ◌≤◌, ◌<◌, ◌+◌, ℕ, zero, suc, Bool, true, false, List, [], ◌∷◌, length, drop, get_or, Some, None, Ok, Err, refl, sym, ◌∙◌, ap, subst, arith}
-use Rattle.std.specs.Prelude.{Option, Result, All, if◌then◌else◌, map, IsUtf8}
+use Rattle.std.specs.Prelude.{Option, Result, IfOk, IfErr, All, if◌then◌else◌, map, IsUtf8}
 use Rattle.std.specs.List.{AllPass}
 use Rattle.std.specs.Option.{option_map_or, option_and_then}
 use Rattle.std.specs.Str.{is_utf8}
+use Rattle.std.proofs.lemmas.Bool.{leb-true}
+use Rattle.std.proofs.lemmas.Bool.Decides.{nat_tests}
 use Rattle.std.proofs.lemmas.List.{at_drop_more, at_drop_all}
 use Rattle.std.proofs.lemmas.Str.{IsUtf8-from_is_utf8, is_utf8-from_IsUtf8}
+use Rattle.std.proofs.Math.Bool.{Bool-set}
+use mathlib.Core.Logic.{∥∥₁_elim}
 use Rattle.site_types.specs.Classes.{RequestClass, class_of, site_file}
 use Rattle.site_types.specs.Lines.{IsFormed, line_of}
 use Rattle.site_types.specs.declared.answer.Answer.{Answer}
@@ -29,12 +33,14 @@ use Rattle.desk_rules.specs.Seen.{blank, seen}
 use Rattle.desk_rules.proofs.SeenLemmas.{entries_seen}
 use Rattle.site_desk.specs.Stands.{settled, settled_by}
 use Rattle.site_desk.specs.Index.{built, Remembers, IsSet}
-use Rattle.site_desk.specs.Steps.{AreAllSet, AreListed, AreSet, IsReady, IsRefusalOf, IsRefused, IsStepRefusal}
+use Rattle.site_desk.specs.Steps.{AreListed, AreOfFile, AreRefused, AreSet, IsReady, IsRefusalOf, IsRefused, IsStepRefusal}
 use Rattle.site_desk.specs.declared.index.Index.{Index}
+use Rattle.site_desk.specs.declared.prepare.Ready.{Ready}
 use Rattle.site_desk.proofs.Deciding.{Decided, decided_seen, passed_so}
 use Rattle.site_desk.proofs.Changing.{Sets, set_seen, setting_plain, settles}
 use Rattle.site_desk.proofs.IndexLemmas.{remembers_more}
 use Rattle.site_desk.proofs.Refusing.{refused_as, sized_seen}
+use Rattle.site_desk.proofs.FileLines.{few_requests}
 
 -- what follows a request in a list, where it is refused so or not at all
 abbrev unless_set : List Request → State → Option Answer → Result State Answer
@@ -101,6 +107,14 @@ pub refusal_plain : (requests : List Request) (old new : Index) (a : Answer) →
 refusal_plain requests old new a refused =
     each_plain requests (seen old.site old.catalogue) a (refused (map blank old.catalogue) [] (record { listed = entries_seen old.catalogue; sized = sized_seen old.catalogue }))
 
+-- All of them were carried out, so they are few: the book that they make is a sound one.
+pub few_set : (requests : List Request) (old new : Index) → AreOfFile requests → ((images : List Image) (stored : List Stored) → AreListed old images → AreSet (all_set requests (built old.site images stored)) images new None) → length requests ≤ 288017
+few_set requests old new file set =
+    let made = set (map blank old.catalogue) [] (record { listed = entries_seen old.catalogue; sized = sized_seen old.catalogue }) in
+    leb-true (length requests) 288017 (∥∥₁_elim new.sound (Bool-set _ true) (λ there.
+    let few = few_requests file.0 requests file.1 (seen old.site old.catalogue) (built new.site (map blank old.catalogue) made.0) made.1 there.sound.site in
+    grind (arith, nat_tests, few)))
+
 -- Their lines make the state after them.
 lines_settled : (requests : List Request) (s t : State) → All IsFormed requests → AllPass is_setting requests → all_set requests s ≡ Ok t → settled s (map line_of requests) ≡ Some t
 lines_settled [] s t formed settings is = let same : s ≡ t = cc is in ap Some same
@@ -158,9 +172,9 @@ abbrev pub file_row : List Request → Record
 file_row requests = record { entry = entry.Settings (map line_of requests); bytes = [] }
 
 module _ (load : Request) (file : class_of load ≡ site_file) where
-  pub ready_load : (records : List Found) (end : ℕ) (payload : List ℕ) (moment : ℕ) (images : List Image) (stored : List Stored) (requests : List Request) (staged body : List ℕ) (old new : Index) → IsUtf8 payload → site_requests payload ≡ Some requests → All IsFormed requests → AllPass is_setting requests → IsStaged (file_row requests) staged → body ≡ count_text requests
-      → AreAllSet (all_set requests (built old.site images stored)) images new (Ok tt) → Remembers records new images → IsReady records end (built old.site images stored) load payload moment staged body new
-  ready_load records end payload moment images stored requests staged body old new utf8 is formed settings staged_is body_is set remembers = record {
+  pub ready_load : (records : List Found) (end : ℕ) (payload : List ℕ) (moment : ℕ) (images : List Image) (stored : List Stored) (requests : List Request) (old new : Index) (result : Result Ready Answer) → IsUtf8 payload → site_requests payload ≡ Some requests → All IsFormed requests → AllPass is_setting requests → IfOk result (λ r. IsStaged (file_row requests) r.staged) → IfOk result (λ r. r.body ≡ count_text requests)
+      → IfOk result (λ _. AreSet (all_set requests (built old.site images stored)) images new None) → Remembers records new images → IfOk result (λ r. IsReady records end (built old.site images stored) load payload moment r.staged r.body new)
+  ready_load records end payload moment images stored requests old new (Ok r) utf8 is formed settings staged_is body_is set remembers = record {
     row = file_row requests;
     staged_is = staged_is;
     images = images;
@@ -169,8 +183,10 @@ module _ (load : Request) (file : class_of load ≡ site_file) where
     steps = done_load load file payload moment (built old.site images stored) requests utf8 is (built new.site images set.0) set.1 ∙ ap (λ (b : List ℕ). (Done b, built new.site images set.0)) (sym body_is);
     remembers = λ short. remembers_more records (with_one records end (file_row requests)) new images (still_there records end (file_row requests)) remembers;
   }
+  ready_load records end payload moment images stored requests old new (Err a) utf8 is formed settings staged_is body_is set remembers = tt
 
   -- all or none: a refusal, or want of memory
-  pub refused_all : (payload : List ℕ) (moment : ℕ) (images : List Image) (stored : List Stored) (requests : List Request) (old new : Index) (a : Answer) → IsUtf8 payload → site_requests payload ≡ Some requests → IsStepRefusal a → AreAllSet (all_set requests (built old.site images stored)) images new (Err a) → IsRefused (built old.site images stored) load payload moment a
-  refused_all payload moment images stored requests old new a utf8 is plain set =
+  pub refused_all : {T : Type 0} (payload : List ℕ) (moment : ℕ) (images : List Image) (stored : List Stored) (requests : List Request) (old : Index) (result : Result T Answer) → IsUtf8 payload → site_requests payload ≡ Some requests → IfErr result IsStepRefusal → IfErr result (AreRefused (all_set requests (built old.site images stored))) → IfErr result (IsRefused (built old.site images stored) load payload moment)
+  refused_all payload moment images stored requests old (Ok x) utf8 is plain set = tt
+  refused_all payload moment images stored requests old (Err a) utf8 is plain set =
       ⊎_elim (λ memory. subst (IsRefused (built old.site images stored) load payload moment) (sym memory) (tt, refl)) (λ refused. refused_load load file payload moment (built old.site images stored) requests utf8 is a plain refused) set

@@ -1,19 +1,14 @@
 -- The records that are read of a journal: each image has as many bytes as its entry tells.
-use Rattle.std.proofs.Common.{◌≡◌, ◌≢◌, ℕ, zero, suc, ◌+◌, List, [], ◌∷◌, length, take, drop, Bool, true, false, Some, None, refl, ◌∙◌, ap, subst, arith}
+use Rattle.std.proofs.Common.{◌≡◌, ℕ, zero, suc, ◌+◌, List, [], ◌∷◌, length, take, drop, Bool, true, false, Some, None, refl, subst, arith}
 use Rattle.std.specs.Prelude.{Option, if◌then◌else◌, ◌==◌, nat_eq, nat_le, nat_lt, option_and_then}
 use Rattle.std.proofs.lemmas.Bool.Decides.{nat_tests}
 use Rattle.std.specs.List.{starts_with, common_prefix_len}
-use Rattle.std.specs.Option.{option_map_or}
 use Rattle.std.specs.Int.{w32, from_be_bytes}
-use Rattle.site_types.specs.declared.image.Base.{Base}
-use Rattle.site_types.specs.declared.image.Kind.{Kind}
-use Rattle.site_types.specs.declared.image.Base.TheVariants as base
-use Rattle.site_types.proofs.OptionLemmas.{chained}
 use Rattle.pool_journal.specs.declared.entry.Entry.{Entry}
 use Rattle.pool_journal.specs.declared.entry.Entry.TheVariants as entry
 use Rattle.pool_journal.specs.declared.entry.WholeImage.{WholeImage}
-use Rattle.pool_journal.specs.Fields.{byte_field, long_field, kind_field, base_field, base_code, base_coded}
-use Rattle.pool_journal.specs.Entries.{Record, record_of, of_kind, alone, with_bytes, settings_field, backup_field, backup_entry, stored_copy_field, copy_entry, id_field, made_under_field, taken_as_field, version_field, moments_field, whole_image_field}
+use Rattle.pool_journal.specs.Fields.{byte_field}
+use Rattle.pool_journal.specs.Entries.{Record, record_of, of_kind, alone, with_bytes, settings_field, backup_field, backup_entry, stored_copy_field, copy_entry, whole_image_field}
 use Rattle.pool_journal.specs.Records.{header, Found, Reading, found, broken, foreign, with_record, records, reading}
 use Rattle.site_desk.specs.Replays.{IsRead, AreRead}
 

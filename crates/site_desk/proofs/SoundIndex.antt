@@ -1,6 +1,6 @@
 -- An index is of a sound state, over any vault.
-use Rattle.std.proofs.Common.{◌≡◌, ◌∙◌, ℕ, Bool, true, List, [], length, map, replicate, None, refl, sym, ap, subst}
-use Rattle.std.specs.Prelude.{◌&&◌, is_none, is_some, not, nat_le, nat_lt, Result, Ok, Err, OnOk, OnErr}
+use Rattle.std.proofs.Common.{◌≡◌, ◌∙◌, ℕ, true, List, [], length, map, replicate, None, refl, sym, ap, subst}
+use Rattle.std.specs.Prelude.{◌&&◌, is_some, not, nat_le, nat_lt, Result, Ok, Err, OnOk, OnErr}
 use Rattle.std.proofs.lemmas.List.{length-replicate}
 use mathlib.Core.Logic.{∥∥₁_map}
 use Rattle.site_types.specs.Limits.{last_moment}

@@ -1,10 +1,9 @@
 -- Records that are replayed one by one.
-use Rattle.std.specs.Prelude.{◌≡◌, ◌≢◌, ◌&&◌, ℕ, Bool, true, false, if◌then◌else◌, List, length, Option, Some, None, option_and_then, Contains}
+use Rattle.std.specs.Prelude.{◌≡◌, ◌&&◌, ℕ, Bool, true, false, if◌then◌else◌, List, length, Option, Some, None, option_and_then, Contains}
 use Rattle.std.specs.Result.{result_ok}
 use Rattle.std.specs.Str.{bytes_eq}
 use Rattle.site_types.specs.Lines.{line_of, read_line}
 use Rattle.site_types.specs.declared.request.Request.{Request}
-use Rattle.site_types.specs.declared.image.Base.TheVariants as base
 use Rattle.pool_journal.specs.declared.entry.Entry.{Entry}
 use Rattle.pool_journal.specs.declared.entry.Entry.TheVariants as entry
 use Rattle.pool_journal.specs.Records.{Found}

@@ -8,6 +8,7 @@ use Rattle.vault_disk.specs.Disk.{Disk}
 use Rattle.pool_journal.specs.Entries.{Record, spelled_entry, IsStaged}
 use Rattle.pool_journal.specs.Records.{Found}
 use Rattle.pool_journal.specs.Stops.{with_one}
+use Rattle.policy_book.specs.SiteFile.{site_requests}
 use Rattle.desk_model.specs.State.{State, Image, Stored, entries}
 use Rattle.desk_model.specs.Step.{step}
 use Rattle.site_desk.specs.Stands.{apply, Standing, Between}
@@ -48,10 +49,13 @@ abbrev pub AreSet : Result State Answer → List Image → Index → Option Answ
 AreSet result images index None = (stored : List Stored) × (result ≡ Ok (built index.site images stored))
 AreSet result images index (Some refusal) = result ≡ Err refusal
 
--- all were carried out, or none: then the first that is refused was answered, or there was no memory
-abbrev pub AreAllSet : Result State Answer → List Image → Index → Result (Unit {0}) Answer → Type 0
-AreAllSet result images index (Ok done) = (stored : List Stored) × (result ≡ Ok (built index.site images stored))
-AreAllSet result images index (Err answer) = (answer ≡ OutOfMemory) ⊎ (result ≡ Err answer)
+-- none was carried out: the first that is refused was answered so, or there was no memory
+abbrev pub AreRefused : Result State Answer → Answer → Type 0
+AreRefused result answer = (answer ≡ OutOfMemory) ⊎ (result ≡ Err answer)
+
+-- requests of a site file
+abbrev pub AreOfFile : List Request → Type 0
+AreOfFile requests = (payload : List ℕ) × (site_requests payload ≡ Some requests)
 
 -- images that the catalogue may have the records of
 pub record AreListed (index : Index) (images : List Image) : Type 0 where

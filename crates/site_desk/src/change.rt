@@ -17,6 +17,7 @@ use site_types::{Answer, NoMemory, Request, Text};
 use std::alloc::Global;
 
 fn stage_request(alloc: Global, request: &Request) -> Result<Staged, NoMemory>
+    requires { IsFormed request.now }
     ensures { IfOk result (IsStaged (record { entry = entry.Settings (line_of request.now ∷ []); bytes = [] })) }
 {
     let mut lines = Vec::new(alloc);

@@ -1,16 +1,16 @@
 // The requests of a site file, all of them or none.
-ghost use Rattle.std.specs.Prelude.{◌≡◌, ◌≤◌, ℕ, List, [], All, map, IfOk, IfErr, OnErr};
+ghost use Rattle.std.specs.Prelude.{◌≡◌, ◌≤◌, ℕ, List, [], None, All, map, IfOk, IfErr, OnErr};
 ghost use Rattle.std.specs.List.{AllPass};
 ghost use Rattle.site_types.specs.Classes.{class_of, site_file};
 ghost use Rattle.site_types.specs.Limits.{last_moment};
 ghost use Rattle.site_types.specs.Lines.{IsFormed, line_of};
 ghost use Rattle.pool_journal.specs.declared.entry.Entry.TheVariants as entry;
-ghost use Rattle.pool_journal.specs.Entries.{IsStaged};
+ghost use Rattle.pool_journal.specs.Entries.{IsWritable, IsStaged};
 ghost use Rattle.pool_journal.specs.Records.{Found};
 ghost use Rattle.desk_model.specs.State.{Image, Stored};
 ghost use Rattle.desk_model.specs.Settings.{all_set, count_text, is_setting};
 ghost use Rattle.site_desk.specs.Index.{built, Remembers, SameIndex};
-ghost use Rattle.site_desk.specs.Steps.{AreAllSet, AreListed, AreSet, IsReady, IsRefusalOf, IsRefused, IsStepRefusal};
+ghost use Rattle.site_desk.specs.Steps.{AreListed, AreOfFile, AreRefused, AreSet, IsReady, IsRefusalOf, IsRefused, IsStepRefusal};
 
 use crate::index::Index;
 use crate::lines::{line_of, stage_lines};
@@ -44,6 +44,7 @@ fn count_text(alloc: Global, requests: &[Request]) -> Result<Text, NoMemory>
 }
 
 fn stage_requests(alloc: Global, requests: &[Request]) -> Result<Ready, NoMemory>
+    requires { IsWritable (record { entry = entry.Settings (map line_of requests.now); bytes = [] }) }
     ensures staged { IfOk result (λ r. IsStaged (record { entry = entry.Settings (map line_of requests.now); bytes = [] }) r.staged) }
     ensures body { IfOk result (λ r. r.body ≡ count_text requests.now) }
 {
@@ -73,30 +74,34 @@ fn set_each(
     Ok(None)
 }
 
-// Carries out all requests. Where one of them is refused, and without memory, the site is put back as it was.
-fn set_all(alloc: Global, index: &mut Index, requests: &[Request]) -> Result<(), Answer>
+// Carries out all requests, and then takes all memory of their record. Where one of them is refused, and without memory, the site
+// is put back as it was.
+fn set_all(alloc: Global, index: &mut Index, requests: &[Request]) -> Result<Ready, Answer>
+    requires file { AreOfFile requests.now }
     requires settings { AllPass is_setting requests.now }
     requires formed { All IsFormed requests.now }
-    ensures set { (images : List Image) (stored : List Stored) → AreListed index.old images → AreAllSet (all_set requests.now (built index.old.site images stored)) images index.new result }
+    ensures set { (images : List Image) (stored : List Stored) → AreListed index.old images → IfOk result (λ _. AreSet (all_set requests.now (built index.old.site images stored)) images index.new None) }
+    ensures staged { IfOk result (λ r. IsStaged (record { entry = entry.Settings (map line_of requests.now); bytes = [] }) r.staged) }
+    ensures body { IfOk result (λ r. r.body ≡ count_text requests.now) }
+    ensures refused { (images : List Image) (stored : List Stored) → AreListed index.old images → IfErr result (AreRefused (all_set requests.now (built index.old.site images stored))) }
+    ensures plain { IfErr result IsStepRefusal }
     ensures catalogue { index.new.catalogue ≡ index.old.catalogue }
     ensures extents { index.new.extents ≡ index.old.extents }
-    ensures plain { IfErr result IsStepRefusal }
     ensures unchanged { OnErr result (SameIndex index.old index.new) }
 {
     let Ok(before) = index.site.copy(alloc) else {
         return Err(Answer::OutOfMemory);
     };
-    match set_each(alloc, index, requests) {
-        Ok(None) => Ok(()),
-        Ok(Some(refusal)) => {
-            index.site = before; // Those before it were carried out.
-            Err(refusal)
-        }
-        Err(_) => {
-            index.site = before;
-            Err(Answer::OutOfMemory)
-        }
-    }
+    let refusal = match set_each(alloc, index, requests) {
+        Ok(None) => match stage_requests(alloc, requests) {
+            Ok(ready) => return Ok(ready),
+            Err(_) => Answer::OutOfMemory,
+        },
+        Ok(Some(refusal)) => refusal,
+        Err(_) => Answer::OutOfMemory,
+    };
+    index.site = before; // Some of them may have been carried out.
+    Err(refusal)
 }
 
 /// Makes ready the record of the requests of a site file.
@@ -123,16 +128,9 @@ pub fn prepare_load(
     let Change::Load = change else {
         return Err(answer);
     };
-    let requests = match policy_book::load(alloc, payload) {
-        Ok(requests) => requests,
-        Err(LoadFault::NotASite) => return Err(Answer::BadRequest { index: 1 }),
-        Err(LoadFault::NoMemory) => return Err(Answer::OutOfMemory),
-    };
-    let Ok(ready) = stage_requests(alloc, &requests) else {
-        return Err(Answer::OutOfMemory);
-    };
-    match set_all(alloc, index, &requests) {
-        Ok(()) => Ok(ready),
-        Err(refusal) => Err(refusal),
+    match policy_book::load(alloc, payload) {
+        Ok(requests) => set_all(alloc, index, &requests),
+        Err(LoadFault::NotASite) => Err(Answer::BadRequest { index: 1 }),
+        Err(LoadFault::NoMemory) => Err(Answer::OutOfMemory),
     }
 }

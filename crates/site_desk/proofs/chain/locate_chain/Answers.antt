@@ -1,8 +1,8 @@
-use Rattle.std.proofs.Common.{◌≡◌, ◌∙◌, ℕ, List, Some, Ok, Err, None, Option, map, sym, ap, refl, subst}
+use Rattle.std.proofs.Common.{◌∙◌, ℕ, List, Err, map, sym, ap, refl, subst}
 use Rattle.std.specs.Prelude.{Contains}
 use Rattle.site_types.specs.Classes.{class_seen}
 use Rattle.site_types.specs.declared.id.BackupId.{BackupId}
-use Rattle.restore_engine.specs.Chains.{Chain, IsChain, chain_at}
+use Rattle.restore_engine.specs.Chains.{IsChain, chain_at}
 use Rattle.restore_engine.specs.declared.chains.ChainFault.{ChainFault}
 use Rattle.site_desk.specs.Extents.{extent_of}
 use Rattle.site_desk.proofs.ChainPlaces.{chain_whole, found_here, placed_here, refusal_plain, refused_here}

@@ -1,6 +1,4 @@
-use Rattle.std.proofs.Common.{List, ℕ}
 use Rattle.vault_disk.proofs.Moments.{same_on}
-use Rattle.pool_journal.specs.Records.{Found}
 use Rattle.site_desk.proofs.ChainImages.{read_all, read_more}
 use Rattle.site_desk.proofs.ChainReading.{looked_after}
 use Rattle.site_desk.proofs.chain.read_images.Goals as goal

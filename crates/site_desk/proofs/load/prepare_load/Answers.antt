@@ -1,14 +1,16 @@
-use Rattle.std.proofs.Common.{◌∙◌, List, Ok, Err, refl, ap, sym, subst}
+use Rattle.std.proofs.Common.{◌≡◌, List, None, Some, Err, refl, ap, subst, sym}
 use Rattle.std.specs.List.{AllPass}
+use Rattle.std.specs.Prelude.{IfErr, IfOk}
 use Rattle.site_types.specs.declared.request.Request.{Request}
 use Rattle.pool_journal.specs.Entries.{IsStaged}
+use Rattle.policy_book.specs.SiteFile.{site_requests}
 use Rattle.desk_model.specs.Settings.{all_set, count_text, is_setting}
 use Rattle.site_desk.specs.Extents.{extent_of}
 use Rattle.site_desk.specs.Index.{built}
-use Rattle.site_desk.specs.Steps.{AreAllSet}
+use Rattle.site_desk.specs.Steps.{AreRefused, AreSet}
 use Rattle.site_desk.proofs.IndexLemmas.{remembers_same}
 use Rattle.site_desk.proofs.Loading.{always_loads, no_site, plain_site, file_row, ready_load, refused_all}
-use Rattle.site_desk.proofs.OfRequests.{of_request}
+use Rattle.site_desk.proofs.OfRequests.{refusal_of}
 use Rattle.site_desk.proofs.load.prepare_load.Goals as goal
 
 pub returns-in_default-change : goal.returns-in_default-change
@@ -20,22 +22,24 @@ returns-in-Err-NotASite-clause-refused c records images stored remembers = no_si
 pub returns-in-Err-NotASite-clause-plain : goal.returns-in-Err-NotASite-clause-plain
 returns-in-Err-NotASite-clause-plain c = plain_site c.args.request.now c.requires.file c.args.payload.now (c.in-Err-NotASite.ensures.refused (ap Err c.in-Err-NotASite.field-0-is))
 
-pub set_all-requires-clause-settings : goal.set_all-requires-clause-settings
-set_all-requires-clause-settings c = subst (AllPass is_setting) (sym c.deref-2.ensures.value) c.in-Ok-load.ensures.changes
+pub set_all-requires-clause-file : goal.set_all-requires-clause-file
+set_all-requires-clause-file c = (c.args.payload.now, subst (λ (rs : List Request). site_requests c.args.payload.now ≡ Some rs) (sym c.deref.ensures.value) c.in-Ok-load.ensures.requests.1)
 
-pub returns-in-Ok-set_all-clause-ready : goal.returns-in-Ok-set_all-clause-ready
-returns-in-Ok-set_all-clause-ready c records images stored end remembers =
-    ready_load c.args.request.now c.requires.file records end c.args.payload.now c.args.moment images stored c.in-Ok-load.requests.items c.in-Ok-stage_requests.ready.staged c.in-Ok-stage_requests.ready.body c.args.index.now c.set_all.new.index c.in-Ok-load.ensures.requests.0 c.in-Ok-load.ensures.requests.1 c.in-Ok-load.ensures.formed
-    c.in-Ok-load.ensures.changes
-    (subst (λ (rs : List Request). IsStaged (file_row rs) c.in-Ok-stage_requests.ready.staged) c.deref.ensures.value c.in-Ok-stage_requests.ensures.staged)
-    (c.in-Ok-stage_requests.ensures.body ∙ ap count_text c.deref.ensures.value)
-    (subst (λ (rs : List Request). AreAllSet (all_set rs (built c.args.index.now.site images stored)) images c.set_all.new.index (Ok tt)) c.deref-2.ensures.value (c.in-Ok-set_all.ensures.set images stored (record { listed = remembers.listed; sized = remembers.sized })))
+pub set_all-requires-clause-settings : goal.set_all-requires-clause-settings
+set_all-requires-clause-settings c = subst (AllPass is_setting) (sym c.deref.ensures.value) c.in-Ok-load.ensures.changes
+
+pub returns-in-Ok-load-clause-ready : goal.returns-in-Ok-load-clause-ready
+returns-in-Ok-load-clause-ready c records images stored end remembers =
+    ready_load c.args.request.now c.requires.file records end c.args.payload.now c.args.moment images stored c.in-Ok-load.requests.items c.args.index.now c.set_all.new.index c.set_all.result c.in-Ok-load.ensures.requests.0 c.in-Ok-load.ensures.requests.1 c.in-Ok-load.ensures.formed c.in-Ok-load.ensures.changes
+    (subst (λ (rs : List Request). IfOk c.set_all.result (λ r. IsStaged (file_row rs) r.staged)) c.deref.ensures.value c.set_all.ensures.staged)
+    (subst (λ (rs : List Request). IfOk c.set_all.result (λ r. r.body ≡ count_text rs)) c.deref.ensures.value c.set_all.ensures.body)
+    (subst (λ (rs : List Request). IfOk c.set_all.result (λ _. AreSet (all_set rs (built c.args.index.now.site images stored)) images c.set_all.new.index None)) c.deref.ensures.value (c.set_all.ensures.set images stored (record { listed = remembers.listed; sized = remembers.sized })))
     (remembers_same records c.args.index.now c.set_all.new.index images c.set_all.ensures.catalogue (λ id. ap (extent_of id) c.set_all.ensures.extents) remembers)
 
-pub returns-clause-refused : goal.returns-clause-refused
-returns-clause-refused c records images stored remembers =
-    refused_all c.args.request.now c.requires.file c.args.payload.now c.args.moment images stored c.in-Ok-load.requests.items c.args.index.now c.set_all.new.index c.in-Err.refusal c.in-Ok-load.ensures.requests.0 c.in-Ok-load.ensures.requests.1 c.in-Err.ensures.plain
-    (subst (λ (rs : List Request). AreAllSet (all_set rs (built c.args.index.now.site images stored)) images c.set_all.new.index (Err c.in-Err.refusal)) c.deref-2.ensures.value (c.in-Err.ensures.set images stored (record { listed = remembers.listed; sized = remembers.sized })))
+pub returns-in-Ok-load-clause-refused : goal.returns-in-Ok-load-clause-refused
+returns-in-Ok-load-clause-refused c records images stored remembers =
+    refused_all c.args.request.now c.requires.file c.args.payload.now c.args.moment images stored c.in-Ok-load.requests.items c.args.index.now c.set_all.result c.in-Ok-load.ensures.requests.0 c.in-Ok-load.ensures.requests.1 c.set_all.ensures.plain
+    (subst (λ (rs : List Request). IfErr c.set_all.result (AreRefused (all_set rs (built c.args.index.now.site images stored)))) c.deref.ensures.value (c.set_all.ensures.refused images stored (record { listed = remembers.listed; sized = remembers.sized })))
 
-pub returns-clause-plain : goal.returns-clause-plain
-returns-clause-plain c = (of_request c.args.request.now c.args.payload.now c.in-Err.refusal c.in-Err.ensures.plain.0, c.in-Err.ensures.plain.1)
+pub returns-in-Ok-load-clause-plain : goal.returns-in-Ok-load-clause-plain
+returns-in-Ok-load-clause-plain c = refusal_of c.args.request.now c.args.payload.now c.set_all.result c.set_all.ensures.plain
