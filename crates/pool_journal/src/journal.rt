@@ -1,9 +1,9 @@
 // Adding a record to a journal.
 //
-// A record is staged and then written. `stage` takes all of its memory and `write` none, and between them the desk changes what
-// it knows, which may find no memory too: so nothing but the disk fails once it has changed. The image's bytes are taken apart
-// from the entry, since an entry that owned them would need a copy of up to 67,108,864 bytes. Where the record isn't known yet
-// when memory is taken, as that of pieces whose slots the disk will show, a `Room` is taken, and `stage_in` takes none.
+// A record is staged and then written. `stage` takes all of its memory and `write` none, and what the desk knows is changed before
+// it is written, which may find no memory too: so nothing but the disk fails behind that. The image's bytes are taken apart from
+// the entry, since an entry that owned them would need a copy of up to 67,108,864 bytes. Where the record isn't known yet when
+// memory is taken, as that of pieces whose slots the disk will show, a `Room` is taken, and `stage_in` takes none.
 ghost use Rattle.std.specs.Prelude.{◌≡◌, ◌+◌, List, [], length, Contains, IfOk, OnOk, OnErr, IfErr, IsErrOf};
 ghost use Rattle.vault_disk.specs.Disk.{IsSame};
 ghost use Rattle.vault_disk.specs.Steps.{LookedAround, Rose};
