@@ -1,13 +1,18 @@
 -- What a decision says of a step.
 use Rattle.std.proofs.Common.{◌≡◌, ◌≢◌, ◌∙◌, ℕ, List, [], ◌∷◌, length, map, Some, None, refl, sym, ap, subst}
-use Rattle.std.specs.Prelude.{Option, Bool, Contains, ◌++◌}
+use Rattle.std.proofs.Common.{arith, get_or}
+use Rattle.std.proofs.lemmas.Bool.Decides.{nat_tests}
+use Rattle.std.specs.Prelude.{Option, Bool, true, Contains, ◌++◌, codes, nat_lt}
 use Rattle.std.specs.Option.{option_map_or}
 use Rattle.site_types.specs.Classes.{RequestClass, site_change, site_file, backup, restore, restore_at, class_of}
 use Rattle.site_types.specs.declared.answer.Answer.{Answer}
 use Rattle.site_types.specs.declared.answer.Answer.TheVariants.{Done}
+use Rattle.site_types.specs.declared.answer.Answer.TheVariants as answer
+use Rattle.site_types.specs.Limits.{payload_limit}
+use Rattle.site_types.specs.declared.request.Request.TheVariants as request
+use Rattle.policy_book.specs.Book.{Book}
 use Rattle.site_types.specs.declared.request.Request.{Request}
 use Rattle.policy_book.specs.declared.fault.BookFault.{BookFault}
-use Rattle.policy_book.specs.declared.fault.BookFault.TheVariants.{Exists, Unknown, InUse, TooMany, Rule, NoMemory}
 use Rattle.policy_book.specs.Requests.{refusals_of}
 use Rattle.desk_model.specs.State.{State, Image, Stored, entries}
 use Rattle.desk_model.specs.Refusals.{Case, first_refusal, unless_refused, step_of}
@@ -25,35 +30,62 @@ use Rattle.site_desk.proofs.Refusing.{refused_as, ArePlain, first_plain, sized_s
 
 -- What a step refuses but by the bytes of a payload.
 
-plain_fault : (fault : BookFault) → IsStepRefusal (refusal_answer fault)
-plain_fault (Exists name) = (tt, tt)
-plain_fault (Unknown name) = (tt, tt)
-plain_fault (InUse name user) = (tt, tt)
-plain_fault (TooMany kind count limit) = (tt, tt)
-plain_fault (Rule rule) = (tt, tt)
-plain_fault NoMemory = (tt, tt)
+-- a limit of something else than bytes
+limited : (kind : List ℕ) (count limit : ℕ) → (kind ≢ codes "bytes") → IsStepRefusal (answer.TooMany kind count limit)
+limited kind count limit other = ((λ same. absurd (other same)), tt)
+
+-- too many bytes
+too_long : (size : ℕ) → nat_lt payload_limit size ≡ true → IsStepRefusal (answer.TooMany (codes "bytes") size payload_limit)
+too_long size more = ((λ same. (refl, grind (arith, nat_tests, more))), tt)
 
 plain_uses : (r : Request) (s : State) → ArePlain (use_refusals r s)
 plain_uses r s = at (removal_of r)
   where
     at : (o : Option Removal) → ArePlain (option_map_or (λ removal. uses_of removal s) o [])
     at None = tt
-    at (Some (gone_client name)) = ((tt, tt), ((tt, tt), tt))
-    at (Some (gone_policy name)) = ((tt, tt), ((tt, tt), tt))
+    at (Some (gone_client name)) = ((λ _. (tt, tt)), ((λ _. (tt, tt)), tt))
+    at (Some (gone_policy name)) = ((λ _. (tt, tt)), ((λ _. (tt, tt)), tt))
 
-plain_before : (rs : List (Bool × BookFault)) (more : List (Bool × Answer)) → ArePlain more → ArePlain (map (λ (r : Bool × BookFault). (r.0, refusal_answer r.1)) rs ++ more)
-plain_before [] more plain = plain
-plain_before (r ∷ rs) more plain = (plain_fault r.1, plain_before rs more plain)
+-- no refusal of a book speaks of bytes
+abbrev ArePlainFaults : List (Bool × BookFault) → Type 0
+ArePlainFaults [] = Unit {0}
+ArePlainFaults (r ∷ rs) = IsStepRefusal (refusal_answer r.1) × ArePlainFaults rs
+
+plain_book : (r : Request) (book : Book) → ArePlainFaults (refusals_of r book)
+plain_book (request.UnitAdd name capacity segment fragment slots high low) book = (limited (codes "units") _ _ (λ same. omega (arith, ap (λ (l : List ℕ). get_or l 0 0) same)), ((tt, tt), tt))
+plain_book (request.UnitChange name capacity slots high low) book = ((tt, tt), tt)
+plain_book (request.ClientAdd name) book = (limited (codes "clients") _ _ (λ same. omega (arith, ap length same)), ((tt, tt), tt))
+plain_book (request.ClientRemove name) book = ((tt, tt), ((tt, tt), tt))
+plain_book (request.PolicyAdd policy policy_type lifecycle) book = (limited (codes "policies") _ _ (λ same. omega (arith, ap length same)), ((tt, tt), ((tt, tt), tt)))
+plain_book (request.PolicyChange policy active lifecycle) book = ((tt, tt), ((tt, tt), tt))
+plain_book (request.PolicyRemove policy) book = ((tt, tt), ((tt, tt), tt))
+plain_book (request.PolicyClientAdd policy client) book = ((tt, tt), (limited (codes "policy-clients") _ _ (λ same. omega (arith, ap length same)), ((tt, tt), ((tt, tt), tt))))
+plain_book (request.PolicyClientRemove policy client) book = ((tt, tt), ((tt, tt), tt))
+plain_book (request.PolicySelect policy path) book = ((tt, tt), (limited (codes "selections") _ _ (λ same. omega (arith, ap length same)), ((tt, tt), tt)))
+plain_book (request.PolicyUnselect policy path) book = ((tt, tt), ((tt, tt), tt))
+plain_book (request.ScheduleAdd policy schedule kind frequency calendar windows) book = ((tt, tt), (limited (codes "schedules") _ _ (λ same. omega (arith, ap length same)), ((tt, tt), ((tt, tt), tt))))
+plain_book (request.ScheduleChange policy schedule kind frequency calendar windows) book = ((tt, tt), ((tt, tt), ((tt, tt), tt)))
+plain_book (request.ScheduleRemove policy schedule) book = ((tt, tt), ((tt, tt), tt))
+plain_book (request.ZoneSet rule offset) book = tt
+plain_book request.Load book = tt
+plain_book (request.Backup client policy schedule start) book = tt
+plain_book (request.Restore id copy) book = tt
+plain_book (request.RestoreAt client policy before) book = tt
+
+plain_before : (rs : List (Bool × BookFault)) (more : List (Bool × Answer)) → ArePlainFaults rs → ArePlain more → ArePlain (map (λ (r : Bool × BookFault). (r.0, refusal_answer r.1)) rs ++ more)
+plain_before [] more faults plain = plain
+plain_before (r ∷ rs) more faults plain = ((λ _. faults.0), plain_before rs more faults.1 plain)
 
 pub plain_settings : (request : Request) (s : State) → ArePlain (setting_refusals request s)
-plain_settings request s = plain_before (refusals_of request s.site.book) (use_refusals request s) (plain_uses request s)
+plain_settings request s = plain_before (refusals_of request s.site.book) (use_refusals request s) (plain_book request s.site.book) (plain_uses request s)
 
 plain_case : (s : State) (class : RequestClass) (payload : List ℕ) (moment : ℕ) → ArePlain (case_of s class payload moment).refusals
 plain_case s (site_change request) payload moment = plain_settings request s
 plain_case s site_file payload moment = tt
-plain_case s (backup client policy schedule start) payload moment = ((tt, tt), ((tt, tt), ((tt, tt), ((tt, tt), ((tt, tt), ((tt, tt), ((tt, tt), ((tt, tt), ((tt, tt), ((tt, tt), tt))))))))))
-plain_case s (restore id copy) payload moment = ((tt, tt), ((tt, tt), ((tt, tt), tt)))
-plain_case s (restore_at client policy before) payload moment = ((tt, tt), ((tt, tt), ((tt, tt), ((tt, tt), ((tt, tt), tt)))))
+plain_case s (backup client policy schedule start) payload moment =
+    ((λ _. limited (codes "images") _ _ (λ same. cc same)), ((λ _. (tt, tt)), ((λ _. (tt, tt)), ((λ _. limited (codes "clients") _ _ (λ same. omega (arith, ap length same))), ((λ _. (tt, tt)), ((λ _. (tt, tt)), ((λ _. (tt, tt)), ((λ _. (tt, tt)), ((λ _. (tt, tt)), ((λ _. limited (codes "time") _ _ (λ same. cc same)), tt))))))))))
+plain_case s (restore id copy) payload moment = ((λ _. (tt, tt)), ((λ _. (tt, tt)), (too_long _, tt)))
+plain_case s (restore_at client policy before) payload moment = ((λ _. (tt, tt)), ((λ _. (tt, tt)), ((λ _. (tt, tt)), ((λ _. (tt, tt)), (too_long _, tt)))))
 
 -- A decision on a request of this class.
 module _ (s : State) (request : Request) (class : RequestClass) (payload : List ℕ) (moment : ℕ) (d : Decision) (class_is : class_of request ≡ class) (decided : IsDecision s request payload moment d) where

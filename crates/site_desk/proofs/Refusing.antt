@@ -20,18 +20,18 @@ refused_as s request payload moment DiskFault refusal is = absurd refusal
 refused_as s request payload moment OutOfMemory refusal is = (tt, refl)
 refused_as s request payload moment a refusal is = (sym (ap (λ (p : Answer × State). p.0) is), sym (ap (λ (p : Answer × State). p.1) is))
 
--- refusals that a step may give
+-- refusals that a step may give where they hold
 abbrev pub ArePlain : List (Bool × Answer) → Type 0
 ArePlain [] = Unit {0}
-ArePlain (r ∷ rs) = IsStepRefusal r.1 × ArePlain rs
+ArePlain (r ∷ rs) = (r.0 ≡ true → IsStepRefusal r.1) × ArePlain rs
 
 pub first_plain : (refusals : List (Bool × Answer)) (a : Answer) → ArePlain refusals → first_refusal refusals ≡ Some a → IsStepRefusal a
 first_plain [] a plain is = absurd (cc is)
-first_plain (r ∷ rs) a plain is = at r.0 (first_plain rs a plain.1) is
+first_plain (r ∷ rs) a plain is = at r.0 refl (first_plain rs a plain.1) is
   where
-    at : (b : Bool) → (first_refusal rs ≡ Some a → IsStepRefusal a) → (if b then Some r.1 else first_refusal rs) ≡ Some a → IsStepRefusal a
-    at true later here = let same : r.1 ≡ a = cc here in subst IsStepRefusal same plain.0
-    at false later there = later there
+    at : (b : Bool) → r.0 ≡ b → (first_refusal rs ≡ Some a → IsStepRefusal a) → (if b then Some r.1 else first_refusal rs) ≡ Some a → IsStepRefusal a
+    at true holds later here = let same : r.1 ≡ a = cc here in subst IsStepRefusal same (plain.0 holds)
+    at false fails later there = later there
 
 -- the images that a decision sees have their lengths
 pub sized_seen : (records : List ImageRecord) (i : Image) → Contains (map blank records) i → i.entry.length ≡ length i.bytes

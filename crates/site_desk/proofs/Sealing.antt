@@ -152,7 +152,7 @@ module _ (index : Index) (request : Request) (payload : List ℕ) (size moment :
     shown_on a shows s state here = elim (shows s asked (length payload) moment state (passed_on s here) (body_on s here)) [
       | inl lacks ↦ subst (λ (x : Answer). IsStepRefusal x × IsRefused s request payload moment x) (sym lacks) ((tt, tt), (tt, refl))
       | inr first ↦
-          let plain : IsStepRefusal a = first_plain (backup_shown asked payload moment s) a ((tt, tt), ((tt, tt), tt)) first in
+          let plain : IsStepRefusal a = first_plain (backup_shown asked payload moment s) a ((λ _. (tt, tt)), ((λ _. (tt, tt)), tt)) first in
           (plain, refused_as s request payload moment a plain.1 (step_so s request class payload moment d asks.is here (passed_on s here) ∙ ap (λ (o : Option Answer). unless_refused s o (backup_done asked payload moment s)) first))
     ]
 

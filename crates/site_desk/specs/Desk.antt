@@ -1,8 +1,9 @@
 -- What contracts see of a desk.
-use Rattle.std.specs.Prelude.{◌≡◌, ℕ, Bool, true, false, List, [], None, Result, Ok, Err, OnOk}
+use Rattle.std.specs.Prelude.{◌≡◌, ◌<◌, ℕ, Bool, true, false, List, [], codes, None, Result, Ok, Err, OnOk}
 use Rattle.site_types.specs.Classes.{RequestClass, site_change, site_file, backup, restore, restore_at, class_of}
+use Rattle.site_types.specs.Limits.{payload_limit}
 use Rattle.site_types.specs.declared.answer.Answer.{Answer}
-use Rattle.site_types.specs.declared.answer.Answer.TheVariants.{Done, OutOfMemory, BadRequest, BadStream, DiskFault, ReadFault, SendFault, ClockFault, NotAVault}
+use Rattle.site_types.specs.declared.answer.Answer.TheVariants.{Done, OutOfMemory, BadRequest, TooMany, BadStream, DiskFault, ReadFault, SendFault, ClockFault, NotAVault}
 use Rattle.site_types.specs.declared.request.Request.{Request}
 use Rattle.site_types.specs.declared.request.Request.TheVariants.{Load}
 use Rattle.vault_disk.specs.Disk.{Disk}
@@ -86,9 +87,10 @@ abbrev pub reached : State → Request → List ℕ → ℕ → Answer → State
 reached s request payload moment OutOfMemory = s
 reached s request payload moment answer = (step s request payload moment).1
 
--- what a request of the desk may be answered on any vault
+-- what a request of the desk may be answered on any vault; too many bytes are more than an answer may have
 abbrev pub IsOfStep : Answer → Type 0
 IsOfStep (BadRequest index) = ⊥
+IsOfStep (TooMany kind count limit) = kind ≡ codes "bytes" → (limit ≡ payload_limit) × (payload_limit < count)
 IsOfStep ReadFault = ⊥
 IsOfStep SendFault = ⊥
 IsOfStep ClockFault = ⊥
