@@ -1,10 +1,10 @@
 -- Why the words of a single request are answered so.
-use Rattle.std.proofs.Common.{◌≡◌, ◌⊎◌, inl, inr, ℕ, ◌≤◌, List, length, refl, sym, subst}
+use Rattle.std.proofs.Common.{◌≡◌, inl, inr, ℕ, ◌≤◌, List, length, refl, sym, subst}
 use Rattle.std.specs.Prelude.{Bool, Option, Ok}
 use Rattle.site_types.specs.Answers.{NeedsMemory}
 use Rattle.site_types.specs.Requests.{takes_payload}
 use Rattle.site_types.specs.declared.answer.Answer.{Answer}
-use Rattle.site_types.specs.declared.answer.Answer.TheVariants.{OutOfMemory, BadRequest, TooMany, DiskFault, ReadFault, SendFault, ClockFault, NotAVault}
+use Rattle.site_types.specs.declared.answer.Answer.TheVariants.{OutOfMemory, BadRequest, TooMany, DiskFault, ReadFault, ClockFault, NotAVault}
 use Rattle.site_types.specs.Limits.{payload_limit}
 use Rattle.site_types.specs.declared.request.Request.{Request}
 use Rattle.vault_disk.specs.Disk.{Image}
@@ -17,7 +17,7 @@ use Rattle.site_desk.specs.Stands.{opened}
 use Rattle.bp_cli.specs.Words.{timed_request}
 use Rattle.bp_cli.specs.Gather.{IsUnread, IsUnasked, IsUntouched, IsGiven, IsUngathered, Gathers}
 use Rattle.bp_cli.specs.Runs.{Outcome, refused, carried, said, HasRisen, IsModels}
-use Rattle.bp_cli.specs.Singles.{Asks, AsksPayload, IsAsked, IsExecuted, IsHeard}
+use Rattle.bp_cli.specs.Singles.{IsAsked, IsExecuted}
 use Rattle.bp_cli.specs.declared.words.TimedRequest.{TimedRequest}
 use Rattle.bp_cli.specs.declared.gather.Inputs.{Inputs}
 use Rattle.bp_cli.proofs.Executing.{entry_of}

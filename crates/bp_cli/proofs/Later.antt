@@ -1,5 +1,5 @@
 -- The same objects, later.
-use Rattle.std.proofs.Common.{◌≡◌, refl, ◌∙◌, arith}
+use Rattle.std.proofs.Common.{refl, ◌∙◌, arith}
 use Rattle.vault_disk.specs.Disk.{Disk, IsLater}
 use Rattle.vault_disk.specs.Input.{Input, IsSameInput}
 use Rattle.vault_disk.specs.Ticks.{Ticks, IsSameClock}

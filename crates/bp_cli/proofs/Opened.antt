@@ -2,8 +2,8 @@
 use Rattle.std.proofs.Common.{◌≡◌, inl, ℕ, ◌≤◌, List, refl, sym, ap, subst, arith}
 use Rattle.std.specs.Prelude.{Ok, Err}
 use Rattle.site_types.specs.declared.answer.Answer.{Answer}
-use Rattle.site_types.specs.declared.answer.Answer.TheVariants.{OutOfMemory, BadRequest, DiskFault}
-use Rattle.vault_disk.specs.Disk.{Disk, Image}
+use Rattle.site_types.specs.declared.answer.Answer.TheVariants.{OutOfMemory, BadRequest}
+use Rattle.vault_disk.specs.Disk.{Disk}
 use Rattle.vault_disk.specs.Steps.{Rose}
 use Rattle.vault_disk.specs.Input.{Input}
 use Rattle.vault_disk.specs.Ticks.{Ticks}
@@ -13,8 +13,8 @@ use Rattle.desk_model.specs.State.{State, durable}
 use Rattle.site_desk.specs.Desk.{IsFaultOf}
 use Rattle.site_desk.specs.Stands.{opened, Opens}
 use Rattle.bp_cli.specs.Words.{timed_request}
-use Rattle.bp_cli.specs.Runs.{Outcome, refused, said, after_outcome, HasRisen, IsModels, state_in, refusal_of, Acts, Acted}
-use Rattle.bp_cli.specs.Singles.{IsAsked, IsAnswered, IsExecuted}
+use Rattle.bp_cli.specs.Runs.{refused, said, after_outcome, HasRisen, IsModels, state_in, refusal_of, Acts, Acted}
+use Rattle.bp_cli.specs.Singles.{IsAnswered, IsExecuted}
 use Rattle.bp_cli.specs.declared.words.TimedRequest.{TimedRequest}
 use Rattle.bp_cli.proofs.Asking.{unread, unasked, untouched, asked_heard}
 use Rattle.bp_cli.proofs.Executing.{acted_refused}

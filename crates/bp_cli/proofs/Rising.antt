@@ -1,5 +1,5 @@
 -- Counts of faults that rose.
-use Rattle.std.proofs.Common.{◌≡◌, ◌≢◌, ℕ, ◌≤◌, refl, arith}
+use Rattle.std.proofs.Common.{◌≡◌, ℕ, ◌≤◌, refl, arith}
 use Rattle.site_types.specs.declared.answer.Answer.{Answer}
 use Rattle.site_types.specs.declared.answer.Answer.TheVariants.{DiskFault, ReadFault, ClockFault}
 use Rattle.vault_disk.specs.Steps.{Rose}

@@ -5,7 +5,7 @@ use Rattle.std.specs.Borrow.{GName}
 use Rattle.std.proofs.lemmas.List.{append-nil}
 use Rattle.site_types.specs.Answers.{number_of, text_of, NeedsMemory}
 use Rattle.site_types.specs.declared.answer.Answer.{Answer}
-use Rattle.site_types.specs.declared.answer.Answer.TheVariants.{OutOfMemory, BadRequest, DiskFault, NotAVault}
+use Rattle.site_types.specs.declared.answer.Answer.TheVariants.{OutOfMemory, BadRequest}
 use Rattle.vault_disk.specs.Disk.{Disk, Image}
 use Rattle.vault_disk.specs.Steps.{Rose, Rests}
 use Rattle.vault_disk.specs.Input.{Input}
@@ -14,7 +14,7 @@ use Rattle.pool_journal.specs.declared.fault.JournalFault.{JournalFault}
 use Rattle.pool_journal.specs.declared.fault.JournalFault.TheVariants as journal
 use Rattle.desk_model.specs.State.{State, durable}
 use Rattle.site_desk.specs.Desk.{IsFaultOf}
-use Rattle.site_desk.specs.Stands.{opened, stands, Standing, Opens}
+use Rattle.site_desk.specs.Stands.{opened, Standing, Opens}
 use Rattle.bp_cli.specs.Runs.{Outcome, refused, carried, said, AreSent, IfLast, HasRisen, IsStatus, Replied, Leaves, Stops, state_in, refusal_of, Acts, Acted, Delivers, Sent, RepliesTo}
 use Rattle.bp_cli.specs.Singles.{IsUnopened, IsAnswered, Ran, RanBad}
 use Rattle.bp_cli.specs.Sessions.{framed, Serves, ServesOn, RanSession}

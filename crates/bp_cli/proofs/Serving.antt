@@ -1,13 +1,12 @@
 -- A session, request by request.
-use Rattle.std.proofs.Common.{◌≡◌, ◌≢◌, ◌⊎◌, inl, inr, ⊎_elim, ℕ, ◌≤◌, List, [], ◌∷◌, ◌++◌, Bool, true, false, refl, sym, ◌∙◌, ap, subst, append_assoc, arith}
+use Rattle.std.proofs.Common.{◌≡◌, ◌≢◌, ◌⊎◌, inl, inr, ⊎_elim, ℕ, List, [], ◌∷◌, ◌++◌, Bool, true, false, refl, sym, ◌∙◌, ap, subst, append_assoc, arith}
 use Rattle.std.specs.Prelude.{Some, ◌||◌, ◌==◌, if◌then◌else◌}
 use Rattle.std.proofs.lemmas.Bool.{eqb-true, or_cases}
 use Rattle.std.proofs.lemmas.List.{append-nil}
 use Rattle.site_types.specs.Answers.{number_of, NeedsMemory}
 use Rattle.site_types.specs.declared.answer.Answer.{Answer}
-use Rattle.site_types.specs.declared.answer.Answer.TheVariants.{OutOfMemory, BadRequest, DiskFault, ReadFault, SendFault, ClockFault}
+use Rattle.site_types.specs.declared.answer.Answer.TheVariants.{OutOfMemory, BadRequest, DiskFault, ReadFault, ClockFault}
 use Rattle.vault_disk.specs.Disk.{Disk, Image, IsLater}
-use Rattle.vault_disk.specs.Steps.{Rose}
 use Rattle.vault_disk.specs.Input.{Input, IsSameInput}
 use Rattle.vault_disk.specs.Ticks.{Ticks, IsSameClock}
 use Rattle.session_text.specs.Turns.{Turn, request, broken, turns}

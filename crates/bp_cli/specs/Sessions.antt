@@ -1,5 +1,5 @@
 -- A session: each request of its text is answered in turn, with a framed reply. What is said of the vault, the source and the clock is said of those that tell; all else holds over any.
-use Rattle.std.specs.Prelude.{◌≡◌, ◌⊎◌, ℕ, Bool, true, false, ◌||◌, ◌==◌, if◌then◌else◌, List, [], ◌∷◌, ◌++◌, length, Option, Some, None, Result, Ok, Err}
+use Rattle.std.specs.Prelude.{◌≡◌, ◌⊎◌, ℕ, Bool, true, false, ◌||◌, ◌==◌, if◌then◌else◌, List, [], ◌∷◌, ◌++◌, length, None, Result, Ok, Err}
 use Rattle.std.specs.Fmt.{decimal}
 use Rattle.site_types.specs.Answers.{number_of, text_of}
 use Rattle.site_types.specs.Requests.{takes_payload}

@@ -1,5 +1,5 @@
 -- A single request: what was asked, and why it is answered so. What is said of the vault, the source and the clock is said of those that tell; all else holds over any.
-use Rattle.std.specs.Prelude.{◌≡◌, ◌⊎◌, ℕ, ◌≤◌, true, List, [], ◌∷◌, length, Result, Ok, Err}
+use Rattle.std.specs.Prelude.{◌≡◌, ◌⊎◌, ℕ, ◌≤◌, true, List, [], ◌∷◌, length, Ok, Err}
 use Rattle.site_types.specs.Answers.{number_of, text_of}
 use Rattle.site_types.specs.Limits.{payload_limit}
 use Rattle.site_types.specs.Requests.{takes_payload}

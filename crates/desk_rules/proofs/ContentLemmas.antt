@@ -1,15 +1,14 @@
 -- What a backup seals.
-use Rattle.desk_rules.proofs.Common.{◌≡◌, ◌≤◌, ◌+◌, ◌∙◌, ◌⊎◌, ℕ, Bool, true, false, if◌then◌else◌, cond, List, [], ◌∷◌, ◌++◌, length, map, filter, flat_map, Option, Some, None, Result, Ok, Err, refl, sym, ap, subst, arith, inl, inr, unwrap_or, nat_le, is_some, option_map, Contains, Answer, ImageRecord, Policy, adhoc, State, Site, Asked, backup_refusals, base_of, policy_asked, reference_of, schedule_asked, first_refusal, IsStateOf, JobBody, Backup, backup_body, Passes, Refusal, Answered, NoMemory, manual}
+use Rattle.desk_rules.proofs.Common.{◌≡◌, ◌≤◌, ◌+◌, ◌∙◌, ◌⊎◌, ℕ, Bool, true, false, if◌then◌else◌, cond, List, [], ◌∷◌, ◌++◌, length, map, flat_map, Option, Some, None, Err, refl, sym, ap, arith, inl, inr, unwrap_or, nat_le, is_some, option_map, Answer, ImageRecord, Policy, adhoc, State, Site, Asked, backup_refusals, base_of, policy_asked, reference_of, schedule_asked, first_refusal, IsStateOf, JobBody, backup_body, Passes, Refusal, Answered, manual}
 use Rattle.std.proofs.lemmas.List.{length-append}
 use Rattle.std.specs.Prelude.{nat_lt}
 use Rattle.site_types.specs.declared.answer.Answer.TheVariants.{BadStream, OutOfMemory, UnitFull}
 use Rattle.site_types.specs.declared.unit.Unit.{Unit as StorageUnit}
 use Rattle.site_types.specs.declared.image.Base.{Base}
-use Rattle.policy_book.specs.Book.{Book, policy_name}
+use Rattle.policy_book.specs.Book.{policy_name}
 use Rattle.policy_book.specs.Lists.{has, named}
 use Rattle.image_kinds.specs.Images.{is_selected, item_made, made, selected}
 use Rattle.image_kinds.specs.declared.entry.Entry.{Entry}
-use Rattle.image_kinds.specs.declared.entry.Item.{Item}
 use Rattle.image_kinds.specs.declared.entry.Item.TheVariants.{Taken, Kept}
 use Rattle.image_kinds.specs.Streams.{spelled_content, spelled_image, spelled_item, spelled_path, spelled_stream}
 use Rattle.std.specs.Int.{to_be_bytes, w64}
@@ -17,7 +16,7 @@ use Rattle.image_catalogue.specs.Images.{used}
 use Rattle.desk_model.specs.Backups.{backup_shown, backup_unit, content_refusals, image_asked, sealed_bytes, stream_break, unit_at}
 use Rattle.desk_model.proofs.NamedLemmas.{found_named}
 use Rattle.desk_model.proofs.Passing.{all_passed, there_is}
-use Rattle.desk_rules.specs.Contents.{IsShown, base_in, base_time, policy_in, policy_of, shown_under}
+use Rattle.desk_rules.specs.Contents.{base_in, base_time, policy_in, policy_of, shown_under}
 
 -- The policy of a backup that nothing refuses.
 

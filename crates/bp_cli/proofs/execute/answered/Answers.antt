@@ -1,9 +1,7 @@
-use Rattle.std.proofs.Common.{◌≡◌, sym, subst}
+use Rattle.std.proofs.Common.{sym, subst}
 use Rattle.std.specs.Prelude.{Err}
 use Rattle.site_types.specs.declared.answer.Answer.{Answer}
 use Rattle.site_types.specs.declared.request.WordFault.{WordFault}
-use Rattle.site_types.specs.declared.answer.Answer.TheVariants.{OutOfMemory, BadRequest}
-use Rattle.desk_model.specs.State.{State}
 use Rattle.site_desk.specs.Stands.{opened}
 use Rattle.bp_cli.specs.Words.{timed_request, IsTimedReading}
 use Rattle.bp_cli.specs.Runs.{state_in, Acted}

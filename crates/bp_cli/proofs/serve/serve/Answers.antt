@@ -1,4 +1,4 @@
-use Rattle.std.proofs.Common.{◌≡◌, ◌++◌, [], ℕ, refl, sym, subst, arith}
+use Rattle.std.proofs.Common.{◌++◌, ℕ, refl, sym, subst, arith}
 use Rattle.bp_cli.specs.Sessions.{IsTurned, ServesOn}
 use Rattle.bp_cli.specs.declared.turn.Turned.{Turned}
 use Rattle.bp_cli.proofs.Asking.{unasked}

@@ -1,4 +1,4 @@
-use Rattle.std.proofs.Common.{◌≡◌, ◌∙◌, sym, subst}
+use Rattle.std.proofs.Common.{◌∙◌, sym, subst}
 use Rattle.site_types.specs.declared.answer.Answer.TheVariants.{OutOfMemory}
 use Rattle.site_desk.specs.Desk.{DeskValue}
 use Rattle.bp_cli.specs.Gather.{IsUnasked}

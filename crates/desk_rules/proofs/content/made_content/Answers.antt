@@ -1,4 +1,4 @@
-use Rattle.std.proofs.Common.{◌≡◌, ◌≤◌, ◌∙◌, ℕ, List, length, sym, ap, subst}
+use Rattle.std.proofs.Common.{◌≤◌, ◌∙◌, ℕ, List, length, sym, ap, subst}
 use Rattle.image_kinds.specs.Streams.{spelled_image, spelled_stream}
 use Rattle.desk_rules.proofs.ContentLemmas.{made_short}
 use Rattle.desk_rules.proofs.content.made_content.Goals as goal

@@ -1,7 +1,6 @@
-use Rattle.desk_rules.proofs.Common.{◌≡◌, ◌∙◌, ◌⊎◌, List, ℕ, Bool, Answer, sym, ap, subst, None, Some, first_refusal}
+use Rattle.desk_rules.proofs.Common.{◌≡◌, ◌∙◌, ◌⊎◌, List, Bool, Answer, sym, ap, subst, Some, first_refusal}
 use Rattle.site_types.specs.declared.answer.Answer.TheVariants.{OutOfMemory}
-use Rattle.site_types.specs.declared.image.Base.{Base}
-use Rattle.desk_model.specs.Backups.{backup_shown, sealed_bytes}
+use Rattle.desk_model.specs.Backups.{sealed_bytes}
 use Rattle.desk_rules.specs.Contents.{base_time, policy_of, shown_under}
 use Rattle.desk_rules.proofs.ContentLemmas.{bytes_same, shown_by, shown_same}
 use Rattle.desk_rules.proofs.content.seal_content.Goals as goal
