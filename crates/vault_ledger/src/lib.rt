@@ -1,0 +1,3 @@
+//! What a vault's journal says, and what it stands for with its pools.
+#![tactic(auto)]
+
