@@ -1,0 +1,127 @@
+-- A change of the site is the same on a ledger and on the state that it stands for.
+use Rattle.std.proofs.Common.{◌≡◌, ◌∙◌, ◌+◌, ◌*◌, ℕ, zero, suc, Bool, true, false, List, [], ◌∷◌, ◌++◌, length, refl, sym, ap, subst, arith}
+use Rattle.std.specs.Prelude.{map, filter, if◌then◌else◌, Option, Some, None, unwrap_or, Contains}
+use Rattle.std.specs.Str.{bytes_eq}
+use Rattle.std.proofs.lemmas.Bool.{false≢true}
+use Rattle.std.proofs.lemmas.List.{map-append}
+use Rattle.site_types.specs.declared.image.CopyRecord.{CopyRecord}
+use Rattle.site_types.specs.declared.request.Request.{Request}
+use Rattle.site_types.specs.declared.request.Request.TheVariants as request
+use Rattle.site_types.specs.declared.unit.Unit.{Unit as StorageUnit}
+use Rattle.slp_tree.proofs.ListLemmas.{named-put, text_is}
+use Rattle.vault_disk.specs.Disk.{Image as DiskImage}
+use Rattle.pool_journal.specs.Segments.{NewSegment}
+use Rattle.policy_book.specs.Lists.{changed, has, named, put}
+use Rattle.policy_book.specs.Book.{Book, disk0, unit_name}
+use Rattle.policy_book.specs.Changes.{unit_of, unit_with}
+use Rattle.policy_book.specs.Requests.{book_after}
+use Rattle.desk_model.specs.State.{State, Image, Stored}
+use Rattle.desk_model.specs.Refusals.{first_refusal}
+use Rattle.desk_model.specs.Backups.{unit_at}
+use Rattle.desk_model.specs.Settings.{set_by, setting_refusals, stored_after}
+use Rattle.desk_model.proofs.NamedLemmas.{named-changed, some_named}
+use Rattle.desk_model.proofs.Passing.{all_passed}
+use Rattle.vault_ledger.specs.Ledger.{Ledger, LiveSlot, bytes_by, image_over, live_on, piece_in, pieces_on, pool_file, segment_of, set_over, slots_of, spelled, state_over, with_outline}
+
+-- where a unit's pool is, and the size of its segments
+abbrev pub place : StorageUnit → ℕ × ℕ
+place u = (u.number, u.segment)
+
+-- units that were there have their pools where they were
+abbrev pub PlacesStay : Book → Book → Type 0
+PlacesStay old new = (name : List ℕ) → has unit_name name old.units ≡ true → place (unit_at name new) ≡ place (unit_at name old)
+
+-- no change of the site moves a pool
+pub places_stay : (r : Request) (s : State) → first_refusal (setting_refusals r s) ≡ None → PlacesStay s.site.book (book_after r s.site.book)
+places_stay (request.UnitAdd name capacity segment fragment slots high low) s none other there =
+    ap (λ (o : Option StorageUnit). place (unwrap_or o disk0)) (named-put unit_name new other s.site.book.units) ∙ at (bytes_eq name other) refl
+  where
+    new : StorageUnit
+    new = unit_of name (length s.site.book.units) (record { capacity = capacity; segment = segment; fragment = fragment; slots = slots; high = high; low = low })
+
+    fresh : has unit_name name s.site.book.units ≡ false
+    fresh = (all_passed (setting_refusals (request.UnitAdd name capacity segment fragment slots high low) s) none).1.0
+
+    at : (b : Bool) → bytes_eq name other ≡ b → place (unwrap_or (if b then Some new else named unit_name other s.site.book.units) disk0) ≡ place (unit_at other s.site.book)
+    at true same = absurd (false≢true (sym fresh ∙ ap (λ (n : List ℕ). has unit_name n s.site.book.units) (text_is name other same) ∙ there))
+    at false differs = refl
+places_stay (request.UnitChange name capacity slots high low) s none other there =
+    let one = some_named unit_name other s.site.book.units there in
+    ap (λ (o : Option StorageUnit). place (unwrap_or o disk0)) (named-changed unit_name name (unit_with change) (λ u. refl) other s.site.book.units one.0 one.1)
+    ∙ at (bytes_eq one.0.name name) one.0
+    ∙ ap (λ (o : Option StorageUnit). place (unwrap_or o disk0)) (sym one.1)
+  where
+    abbrev change : _
+    change = record { capacity = capacity; slots = slots; high = high; low = low }
+
+    at : (b : Bool) (u : StorageUnit) → place (if b then unit_with change u else u) ≡ place u
+    at true u = refl
+    at false u = refl
+places_stay r s none other there = refl
+
+-- the units of copies, sets and live slots are there
+pub record AreThere (l : Ledger) : Type 0 where
+  pub copies : (image : Image) → Contains l.outline.images image → (copy : CopyRecord) → Contains image.entry.copies copy → has unit_name copy.unit l.outline.site.book.units ≡ true
+  pub sets : (set : Stored) → Contains l.outline.stored set → has unit_name set.unit l.outline.site.book.units ≡ true
+  pub slots : (s : LiveSlot) → Contains l.live s → has unit_name s.unit l.outline.site.book.units ≡ true
+
+module _ (c : DiskImage) (l : Ledger) (there : AreThere l) (r : Request) (none : first_refusal (setting_refusals r l.outline) ≡ None) where
+  abbrev after : Ledger
+  after = with_outline l (set_by r l.outline)
+
+  same_image : (image : Image) → Contains l.outline.images image → image_over c l image ≡ image_over c after image
+  same_image image among = ap (λ (b : List ℕ). record { entry = image.entry; bytes = b }) (at image.entry.copies (there.copies image among))
+    where
+      at : (copies : List CopyRecord) → ((copy : CopyRecord) → Contains copies copy → has unit_name copy.unit l.outline.site.book.units ≡ true) → bytes_by c l image.entry copies ≡ bytes_by c after image.entry copies
+      at [] known = refl
+      at (copy ∷ copies) known =
+          ap (λ (p : ℕ × ℕ). spelled (c (2 + p.0)) p.1 image.entry.length (slots_of image.entry.id copy.number l.placements)) (sym (places_stay r l.outline none copy.unit (known copy (0, omega arith, refl))))
+
+  same_images : (images : List Image) → ((i : Image) → Contains images i → Contains l.outline.images i) → map (image_over c l) images ≡ map (image_over c after) images
+  same_images [] among = refl
+  same_images (i ∷ images) among =
+      let here = same_image i (among i (0, omega arith, refl)) in
+      let later = same_images images (λ j has. among j (suc has.0, omega (arith, has.1), has.2)) in
+      λ k. here k ∷ later k
+
+  same_sets : (sets : List Stored) → ((set : Stored) → Contains sets set → Contains l.outline.stored set) → map (set_over c l) sets ≡ map (set_over c after) sets
+  same_sets [] among = refl
+  same_sets (set ∷ sets) among =
+      let here = ap (λ (p : ℕ × ℕ). record { unit = set.unit; pieces = map (piece_in (c (2 + p.0)) p.1) (live_on set.unit l.live) }) (sym (places_stay r l.outline none set.unit (there.sets set (among set (0, omega arith, refl))))) in
+      let later = same_sets sets (λ other has. among other (suc has.0, omega (arith, has.1), has.2)) in
+      λ k. here k ∷ later k
+
+  -- a unit that isn't there has no live slots
+  pub none_live : (name : List ℕ) (live : List LiveSlot) → ((s : LiveSlot) → Contains live s → has unit_name s.unit l.outline.site.book.units ≡ true) → has unit_name name l.outline.site.book.units ≡ false → live_on name live ≡ []
+  none_live name [] known new = refl
+  none_live name (s ∷ live) known new = at (bytes_eq s.unit name) refl
+    where
+      rest : live_on name live ≡ []
+      rest = none_live name live (λ t has. known t (suc has.0, omega (arith, has.1), has.2)) new
+
+      at : (b : Bool) → bytes_eq s.unit name ≡ b → map (λ (t : LiveSlot). t.segment) (if b then s ∷ filter (λ t. bytes_eq t.unit name) live else filter (λ t. bytes_eq t.unit name) live) ≡ []
+      at true same = absurd (false≢true (sym new ∙ ap (λ (n : List ℕ). has unit_name n l.outline.site.book.units) (sym (text_is s.unit name same)) ∙ known s (0, omega arith, refl)))
+      at false differs = rest
+
+-- a unit that is added has an empty set, and the other sets stay
+sets_settled : (c : DiskImage) (l : Ledger) (there : AreThere l) (r : Request) (none : first_refusal (setting_refusals r l.outline) ≡ None)
+    → stored_after r (map (set_over c l) l.outline.stored) ≡ map (set_over c (with_outline l (set_by r l.outline))) (stored_after r l.outline.stored)
+sets_settled c l there (request.UnitAdd name capacity segment fragment slots high low) none =
+    (λ k. same_sets c l there r none l.outline.stored (λ s has. has) k ++ empty k ∷ [])
+    ∙ sym (map-append (set_over c (with_outline l (set_by r l.outline))) l.outline.stored (record { unit = name; pieces = [] } ∷ []))
+  where
+    abbrev r : Request
+    r = request.UnitAdd name capacity segment fragment slots high low
+
+    fresh : has unit_name name l.outline.site.book.units ≡ false
+    fresh = (all_passed (setting_refusals r l.outline) none).1.0
+
+    empty : record { unit = name; pieces = [] } ≡ set_over c (with_outline l (set_by r l.outline)) (record { unit = name; pieces = [] })
+    empty = ap (λ (segments : List NewSegment). record { unit = name; pieces = map (piece_in (c (pool_file name (set_by r l.outline))) (segment_of name (set_by r l.outline))) segments }) (sym (none_live c l there r none name l.live there.slots fresh))
+sets_settled c l there r none = same_sets c l there r none l.outline.stored (λ s has. has)
+
+pub settled_over : (c : DiskImage) (l : Ledger) (there : AreThere l) (r : Request) → first_refusal (setting_refusals r l.outline) ≡ None → set_by r (state_over c l) ≡ state_over c (with_outline l (set_by r l.outline))
+settled_over c l there r none =
+    let images = same_images c l there r none l.outline.images (λ i has. has) in
+    let sets = sets_settled c l there r none in
+    λ k. record (set_by r l.outline) { images = images k; stored = sets k }
