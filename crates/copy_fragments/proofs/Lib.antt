@@ -1,2 +1,4 @@
 pub mod Parts
+pub mod Pinning
+pub mod Progress
 pub mod Reading

@@ -7,7 +7,7 @@ ghost use Rattle.segment_pool.specs.Slots.{held};
 ghost use Rattle.segment_pool.specs.declared.slot.Slot.{Slot as Known};
 ghost use Rattle.copy_fragments.specs.Copies.{HoldsCopy, IsPart, IsPieceCount, IsPlaced, SomePiece, StandsIn, fragment_length, part_length, piece_length};
 
-use crate::place::Place;
+use crate::piece_place::Place;
 use segment_pool::{Fingerprint, Pool, ReadTrouble};
 use std::marker::Model;
 use vault_disk::Vault;

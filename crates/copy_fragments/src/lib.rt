@@ -4,6 +4,8 @@
 #![tactic(auto)]
 
 mod copy_map;
-mod place;
+mod piece_place;
+mod placing;
 
 pub use copy_map::{CopyMap, piece_count};
+pub use placing::{place, unpin_each};

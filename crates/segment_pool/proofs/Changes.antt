@@ -24,6 +24,16 @@ spare_all slots len free le = grind (arith, nat_tests)
 spare_free : (slots len free : ℕ) → len < slots → (if nat_le slots len then 2 ^ 32 else free) ≡ free
 spare_free slots len free lt = grind (arith, nat_tests)
 
+-- a longer table has no less room
+beside_longer : (slots a b n : ℕ) → slots ≤ 16777216 → a ≤ b → (if nat_le slots a then 2 ^ 32 else a - n) ≤ (if nat_le slots b then 2 ^ 32 else b - n)
+beside_longer slots a b n few le = ⊎_elim
+    (λ lt. ⊎_elim
+    (λ lt'. omega (arith, le, spare_free slots a (a - n) lt, spare_free slots b (b - n) lt'))
+    (λ le'. omega (arith, few, lt, spare_free slots a (a - n) lt, spare_all slots b (b - n) le'))
+    (cases_lt b slots))
+    (λ le'. omega (arith, spare_all slots a (a - n) le', spare_all slots b (b - n) (omega (arith, le, le'))))
+    (cases_lt a slots)
+
 -- the table has another entry at one slot
 pub set_becomes : (p : PoolState) (s : ℕ) (x : Option Slot) → s < length p.table → Becomes p (record { file = p.file; size = p.size; slots = p.slots; table = set p.table s x }) s x
 set_becomes p s x within =
@@ -41,6 +51,7 @@ set_becomes p s x within =
           (λ lt. omega (arith, lt, long, count, spare_free p.slots (length p.table) (length p.table - number_held p) lt, spare_free p.slots (length (set p.table s x)) (length (set p.table s x) - count_by is_some (set p.table s x)) (omega (arith, lt, long)), count_by-le-length is_some p.table, count_by-le-length is_some (set p.table s x)))
           (λ le. omega (arith, le, long, spare_all p.slots (length p.table) (length p.table - number_held p) le, spare_all p.slots (length (set p.table s x)) (length (set p.table s x) - count_by is_some (set p.table s x)) (omega (arith, le, long))))
           (cases_lt (length p.table) p.slots);
+      beside = λ n. omega (arith, ap (λ (k : ℕ). if nat_le p.slots k then 2 ^ 32 else k - n) long);
     }
 
 -- the table has free slots more
@@ -61,10 +72,11 @@ grown_as_before p n few =
           (cases_lt (length (p.table ++ replicate n None)) p.slots))
           (λ le. omega (arith, le, long, spare_all p.slots (length p.table) (length p.table - number_held p) le, spare_all p.slots (length (p.table ++ replicate n None)) (length (p.table ++ replicate n None) - count_by is_some (p.table ++ replicate n None)) (omega (arith, le, long))))
           (cases_lt (length p.table) p.slots);
+      beside = λ k. beside_longer p.slots (length p.table) (length (p.table ++ replicate n None)) k few (omega (arith, long));
     }
 
 pub as_before_self : (p : PoolState) → IsAsBefore p p
-as_before_self p = record { file = refl; size = refl; slots = refl; same = λ s. refl; number = refl; room = omega arith }
+as_before_self p = record { file = refl; size = refl; slots = refl; same = λ s. refl; number = refl; room = omega arith; beside = λ n. omega arith }
 
 pub sound_set : (size : ℕ) (t : List (Option Slot)) (s : ℕ) (w : Slot) → s < length t → 1 ≤ w.length → w.length ≤ size → while_held w ≡ Some w → AreSound size t → AreSound size (set t s (Some w))
 sound_set size t s w within some short kept sound u x is =
@@ -125,4 +137,5 @@ becomes_after p q r s x before now =
       elsewhere = λ t ne. now.elsewhere t ne ∙ before.same t;
       number = omega (arith, now.number, before.number, one);
       room = omega (arith, now.room, before.room, one);
+      beside = λ n. omega (arith, now.beside n, before.beside n);
     }

@@ -30,6 +30,10 @@ number_held pool = count_by is_some pool.table
 abbrev pub spare : PoolState → ℕ
 spare pool = if nat_le pool.slots (length pool.table) then 2 ^ 32 else length pool.table - number_held pool
 
+-- for how many new pieces there is room without more memory, were so many held
+abbrev pub room_beside : PoolState → ℕ → ℕ
+room_beside pool n = if nat_le pool.slots (length pool.table) then 2 ^ 32 else length pool.table - n
+
 -- the lowest slot that isn't held
 pub record IsLowestFree (pool : PoolState) (slot : ℕ) : Type 0 where
   pub free : held pool slot ≡ None
@@ -48,6 +52,7 @@ pub record Becomes (old new : PoolState) (slot : ℕ) (what : Option Slot) : Typ
   pub elsewhere : (t : ℕ) → t ≢ slot → held new t ≡ held old t
   pub number : number_held new + one_if_held (held old slot) ≡ number_held old + one_if_held what
   pub room : spare old ≤ spare new + (one_if_held what - one_if_held (held old slot))
+  pub beside : (n : ℕ) → room_beside old n ≤ room_beside new n
 
 -- a slot stays held while it is live or pinned
 abbrev pub while_held : Slot → Option Slot
@@ -65,6 +70,7 @@ pub record IsAsBefore (old new : PoolState) : Type 0 where
   pub same : (slot : ℕ) → held new slot ≡ held old slot
   pub number : number_held new ≡ number_held old
   pub room : spare old ≤ spare new
+  pub beside : (n : ℕ) → room_beside old n ≤ room_beside new n
 
 -- one more than the greatest held slot, and 0 where none is held
 pub record IsEnd (pool : PoolState) (end : ℕ) : Type 0 where

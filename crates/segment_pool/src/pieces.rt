@@ -34,7 +34,8 @@ impl<'a, F: Fingerprint> Cut<'a, F> {
 
     /// The length of each piece but the last, in bytes.
     pub fn size(&self) -> u32
-        ensures { result ≡ self.now.size }
+        ensures is { result ≡ self.now.size }
+        ensures some { 1 ≤ result }
     {
         self.size
     }

@@ -67,6 +67,7 @@ impl<F: Fingerprint> Pool<F> {
     /// Makes room for so many new pieces.
     pub fn reserve(&mut self, alloc: Global, pieces: u32) -> Result<(), NoMemory>
         ensures room { OnOk result (pieces ≤ spare self.new) }
+        ensures sound { AreSound self.new.size self.new.table }
         ensures same { IsAsBefore self.old self.new }
     {
         let wanted = (self.table.held() as u64 + pieces as u64).min(self.slots as u64) as usize;
@@ -77,6 +78,7 @@ impl<F: Fingerprint> Pool<F> {
     fn lengthen(&mut self, slots: usize) -> Result<(), NoMemory>
         requires { slots ≤ 16777216 }
         ensures long { OnOk result (slots ≤ length self.new.table) }
+        ensures sound { AreSound self.new.size self.new.table }
         ensures same { IsAsBefore self.old self.new }
     {
         self.table.grow(slots)?;
