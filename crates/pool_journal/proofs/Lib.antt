@@ -6,6 +6,7 @@ pub mod Rooms
 pub mod Lines
 pub mod Reading
 pub mod Append
+pub mod Growth
 pub mod Opening
 pub mod Suffixes
 pub mod ImageBytes

@@ -1,7 +1,8 @@
 -- The lengths of strings and segments, one behind another.
-use Rattle.pool_journal.proofs.Common.{◌≡◌, ℕ, ◌+◌, ◌-◌, ◌<◌, ◌^◌, min, zero, suc, List, [], ◌∷◌, length, get_or, take, sym, ap, subst, ◌∙◌, length-append, arith, string, strings, AllShort}
+use Rattle.pool_journal.proofs.Common.{◌≡◌, ℕ, ◌+◌, ◌-◌, ◌<◌, ◌^◌, min, zero, suc, List, [], ◌∷◌, length, get_or, take, sym, ap, subst, ◌∙◌, length-append, take_more, arith, string, strings, AllShort}
 use Rattle.std.specs.Prelude.{◌*◌, flat_map}
 use Rattle.pool_journal.proofs.Common.{NewSegment, Segments, counted, spelled_segment, spelled_segments, spelled_slot, w32, to_be_bytes}
+use Rattle.pool_journal.specs.Segments.{taken_by}
 use Rattle.std.proofs.lemmas.List.{get_or_default}
 use Rattle.pool_journal.proofs.Many.{one_more}
 
@@ -17,14 +18,13 @@ counted_more size two all texts k x lt is so_far first then =
     let longer : length (strings (take k texts)) + length (string x) ≡ length (strings (take (k + 1) texts)) = sym (length-append (strings (take k texts)) (string x)) ∙ ap length (one_more string texts k x [] lt is) in
     omega (arith, so_far, first, then, longer)
 
-pub segment_counted : (size all : ℕ) (segments : List NewSegment) (k : ℕ) (d : NewSegment) (n : ℕ) → k < length segments → n ≡ length (spelled_segment (get_or segments k d)) → size ≡ min (length (flat_map spelled_segment (take k segments))) (2 ^ 64 - 1) → all ≡ min (size + n) (2 ^ 64 - 1)
-    → all ≡ min (length (flat_map spelled_segment (take (k + 1) segments))) (2 ^ 64 - 1)
-segment_counted size all segments k d n lt n_is so_far then =
+-- one new segment more
+pub one_longer : (segments : List NewSegment) (k : ℕ) (d : NewSegment) (n : ℕ) → k < length segments → n ≡ length (spelled_segment (get_or segments k d))
+    → (length (flat_map spelled_segment (take (k + 1) segments)) ≡ length (flat_map spelled_segment (take k segments)) + n) × (length (take (k + 1) segments) ≡ length (take k segments) + 1)
+one_longer segments k d n lt n_is =
     let x : NewSegment = get_or segments k d in
-    let front : List ℕ = flat_map spelled_segment (take k segments) in
-    let more : List ℕ = flat_map spelled_segment (take (k + 1) segments) in
-    let longer : length front + length (spelled_segment x) ≡ length more = sym (length-append front (spelled_segment x)) ∙ ap length (one_more spelled_segment segments k x [] lt (get_or_default segments k d x lt)) in
-    omega (arith, so_far, n_is, then, longer)
+    let more = one_more spelled_segment segments k x [] lt (get_or_default segments k d x lt) in
+    (omega (arith, n_is, ap length more, length-append (flat_map spelled_segment (take k segments)) (spelled_segment x)), ap length (take_more segments k d lt) ∙ length-append (take k segments) (x ∷ []))
 
 slots_length : (slots : List ℕ) → length (flat_map spelled_slot slots) ≡ 4 * length slots
 slots_length [] = omega arith
@@ -36,6 +36,9 @@ segments_length segments =
     let added : List ℕ = counted spelled_segment segments.added in
     let pieces : List ℕ = counted spelled_slot segments.pieces in
     omega (arith, length-append added pieces, length-append (to_be_bytes w32 (length segments.added)) (flat_map spelled_segment segments.added), length-append (to_be_bytes w32 (length segments.pieces)) (flat_map spelled_slot segments.pieces), slots_length segments.pieces)
+
+pub taken_of : (segments : Segments) (added : List NewSegment) → added ≡ segments.added → length (flat_map spelled_segment added) ≡ 40 * length added → length (spelled_segments segments) ≡ taken_by segments
+taken_of segments added are fixed = omega (arith, segments_length segments, fixed, ap length are, ap (λ (l : List NewSegment). length (flat_map spelled_segment l)) are)
 
 pub size_of : (segments : Segments) (slots : List ℕ) (added : List NewSegment) (four new both all : ℕ) → slots ≡ segments.pieces → added ≡ segments.added → four ≡ min (length slots * 4) (2 ^ 64 - 1) → new ≡ min (length (flat_map spelled_segment added)) (2 ^ 64 - 1)
     → both ≡ min (new + four) (2 ^ 64 - 1) → all ≡ min (both + 8) (2 ^ 64 - 1) → all ≡ min (length (spelled_segments segments)) (2 ^ 64 - 1)

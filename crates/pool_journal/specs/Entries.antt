@@ -8,7 +8,7 @@ pub use Rattle.pool_journal.specs.declared.entry.Entry.{Entry}
 pub use Rattle.pool_journal.specs.declared.entry.WholeImage.{WholeImage}
 use Rattle.pool_journal.specs.declared.entry.Parsed.{Parsed}
 pub use Rattle.pool_journal.specs.declared.segments.Segments.{Segments}
-use Rattle.pool_journal.specs.Segments.{spelled_segments, segments_field, AreCounted, SegmentsFit}
+use Rattle.pool_journal.specs.Segments.{spelled_segments, segments_field, taken_by, AreCounted, GrowsFor, SegmentsFit}
 use Rattle.site_types.specs.declared.image.Base.TheVariants as base
 use Rattle.pool_journal.specs.declared.entry.Entry.TheVariants as entry
 
@@ -199,12 +199,19 @@ IsSpellable (entry.BackupSealed image segments) = ImageFits image × SegmentsFit
 IsSpellable (entry.CopySealed id copy completed segments) = CopyFits id copy completed × SegmentsFit segments
 IsSpellable (entry.WholeImage image) = ImageFits image
 
--- the fields of a whole image are short: their numbers and lengths take 44 bytes, and four names at most 64 each
+-- The fields of an entry are short. With the kind their numbers and lengths take 44 bytes in an image and 20 in a copy; an image has four names and a copy one, of at most 64 bytes each. The segments stand behind them.
 abbrev pub HasShortFields : Entry → Type 0
 HasShortFields (entry.Settings lines) = Unit {0}
-HasShortFields (entry.BackupSealed image segments) = Unit {0}
-HasShortFields (entry.CopySealed id copy completed segments) = Unit {0}
+HasShortFields (entry.BackupSealed image segments) = length (spelled_entry (entry.BackupSealed image segments)) ≤ 300 + taken_by segments
+HasShortFields (entry.CopySealed id copy completed segments) = length (spelled_entry (entry.CopySealed id copy completed segments)) ≤ 84 + taken_by segments
 HasShortFields (entry.WholeImage image) = length (spelled_entry (entry.WholeImage image)) ≤ 300
+
+-- a length grew for this entry by no more than it may; of the entries without segments nothing is said
+abbrev pub Grows : Entry → ℕ → ℕ → Type 0
+Grows (entry.Settings lines) old new = Unit {0}
+Grows (entry.BackupSealed image segments) old new = GrowsFor segments old new
+Grows (entry.CopySealed id copy completed segments) old new = GrowsFor segments old new
+Grows (entry.WholeImage image) old new = Unit {0}
 
 -- these bytes are a record's that can be written, and that is read as it is spelled
 pub record IsStaged (r : Record) (bytes : List ℕ) : Type 0 where

@@ -1,5 +1,5 @@
 -- The segments of a sealed copy: those that are new in its unit's pool, and the slots of the copy's pieces in their order.
-use Rattle.std.specs.Prelude.{◌≡◌, ℕ, ◌^◌, ◌<◌, List, ◌++◌, length, All, option_map, flat_map}
+use Rattle.std.specs.Prelude.{◌≡◌, ℕ, ◌+◌, ◌*◌, ◌^◌, ◌<◌, ◌≤◌, List, ◌++◌, length, All, option_map, flat_map}
 use Rattle.std.specs.Int.{w32, to_be_bytes}
 use Rattle.site_types.specs.Fields.{bytes_field}
 use Rattle.pool_journal.specs.Fields.{Field, both, count_field, counted_field}
@@ -19,6 +19,10 @@ counted spelled things = to_be_bytes w32 (length things) ++ flat_map spelled thi
 
 abbrev pub spelled_segments : Segments → List ℕ
 spelled_segments segments = counted spelled_segment segments.added ++ counted spelled_slot segments.pieces
+
+-- how many bytes they take: two numbers of four bytes, 40 for each new segment, and four for each piece
+abbrev pub taken_by : Segments → ℕ
+taken_by segments = 8 + 40 * length segments.added + 4 * length segments.pieces
 
 -- and read
 abbrev pub segment_made : ((ℕ × ℕ) × List ℕ) × List ℕ → NewSegment × List ℕ
@@ -48,3 +52,7 @@ SlotFits slot = slot < 2 ^ 32
 
 abbrev pub SegmentsFit : Segments → Type 0
 SegmentsFit segments = All SegmentFits segments.added × All SlotFits segments.pieces
+
+-- a length grew by no more than a sealed copy of these may add: 512 bytes, and 44 for each piece, where no more are new than there are pieces
+abbrev pub GrowsFor : Segments → ℕ → ℕ → Type 0
+GrowsFor segments old new = length segments.added ≤ length segments.pieces → new ≤ old + 512 + 44 * length segments.pieces

@@ -7,7 +7,7 @@
 ghost use Rattle.std.specs.Prelude.{◌≡◌, ◌+◌, List, [], length, Contains, IfOk, OnOk, OnErr, IfErr, IsErrOf};
 ghost use Rattle.vault_disk.specs.Disk.{IsSame};
 ghost use Rattle.vault_disk.specs.Steps.{LookedAround, Rose};
-ghost use Rattle.pool_journal.specs.Entries.{Record, body_of, spelled_entry, staged_record, IsWritable, IsStaged};
+ghost use Rattle.pool_journal.specs.Entries.{Record, body_of, spelled_entry, staged_record, Grows, IsWritable, IsStaged};
 ghost use Rattle.pool_journal.specs.Rooms.{Fits};
 ghost use Rattle.pool_journal.specs.Records.{Found};
 ghost use Rattle.pool_journal.specs.Stops.{AtRest, Appended, Stops, IsOfAppend};
@@ -101,10 +101,15 @@ impl Journal {
     }
 
     /// Adds a record that was staged. It is on the disk when this returns. After a disk fault the journal is opened again.
+    ///
+    /// For a backup or a copy in segments, no more of which are new than it has pieces, the end moves by at most 512 bytes and 44
+    /// for each piece, and the file grows by no more.
     pub fn write<V: Vault>(&mut self, vault: &mut V, staged: &Staged) -> Result<(), Failed>
         ensures appended { (r : Record) → IsStaged r staged.now → (fs : List Found) → (V.disk vault.old).tells → AtRest (V.disk vault.old) self.old fs → OnOk result (Appended fs self.old r (V.disk vault.old) (V.disk vault.new) self.new) }
         ensures stops { (r : Record) → IsStaged r staged.now → (fs : List Found) → (V.disk vault.old).tells → AtRest (V.disk vault.old) self.old fs → Stops fs self.old r (V.disk vault.old) (V.disk vault.new) }
         ensures placed { (r : Record) → IsStaged r staged.now → (V.disk vault.old).tells → OnOk result (self.new ≡ self.old + 5 + length (spelled_entry r.entry) + length r.bytes) }
+        ensures moves { (r : Record) → IsStaged r staged.now → Grows r.entry self.old self.new }
+        ensures grows { (r : Record) → IsStaged r staged.now → (fs : List Found) → (V.disk vault.old).tells → AtRest (V.disk vault.old) self.old fs → OnOk result (Grows r.entry (length ((V.disk vault.old).seen 0)) (length ((V.disk vault.new).seen 0))) }
         ensures same { IsSame (V.disk vault.old) (V.disk vault.new) }
         ensures failed { OnErr result (Rose (V.disk vault.old).faults (V.disk vault.new).faults) }
     {

@@ -1,10 +1,10 @@
 // The segments of a sealed copy.
-ghost use Rattle.std.specs.Prelude.{◌≡◌, ◌<◌, ◌^◌, ◌-◌, ◌++◌, List, ℕ, All, min, length, flat_map};
+ghost use Rattle.std.specs.Prelude.{◌≡◌, ◌<◌, ◌^◌, ◌-◌, ◌*◌, ◌++◌, List, ℕ, All, min, length, flat_map};
 ghost use Rattle.std.specs.Int.{w32, to_be_bytes};
 ghost use Rattle.site_types.specs.Fields.{IsTaken, bytes_field};
 ghost use Rattle.pool_journal.specs.Fields.{IsField, count_field, counted_field, many_field};
 ghost use Rattle.pool_journal.specs.Rooms.{Fits, Gets};
-ghost use Rattle.pool_journal.specs.Segments.{AreCounted, SegmentFits, SegmentsFit, SlotFits, counted, segment_field, segments_field, spelled_segment, spelled_segments, spelled_slot};
+ghost use Rattle.pool_journal.specs.Segments.{AreCounted, SegmentFits, SegmentsFit, SlotFits, counted, segment_field, segments_field, spelled_segment, spelled_segments, spelled_slot, taken_by};
 
 use crate::room::Room;
 use site_types::{Ended, FieldFault, Fields, ListOf};
@@ -148,13 +148,15 @@ pub fn push_segments(out: &mut Room, segments: &Segments)
 
 // Two numbers of four bytes, and a digest.
 fn segment_size(segment: &NewSegment) -> u64
-    ensures { result ≡ length (spelled_segment segment.now) }
+    ensures size { result ≡ length (spelled_segment segment.now) }
+    ensures fixed { result ≡ 40 }
 {
     8 + segment.digest.len() as u64
 }
 
 fn added_size(added: &[NewSegment]) -> u64
-    ensures { result ≡ min (length (flat_map spelled_segment added.now)) (2 ^ 64 - 1) }
+    ensures size { result ≡ min (length (flat_map spelled_segment added.now)) (2 ^ 64 - 1) }
+    ensures fixed { length (flat_map spelled_segment added.now) ≡ 40 * length added.now }
 {
     let mut size: u64 = 0;
     for segment in added {
@@ -165,7 +167,8 @@ fn added_size(added: &[NewSegment]) -> u64
 
 /// The number of bytes that they take in a record, or the greatest that is counted.
 pub fn segments_size(segments: &Segments) -> u64
-    ensures { result ≡ min (length (spelled_segments segments.now)) (2 ^ 64 - 1) }
+    ensures size { result ≡ min (length (spelled_segments segments.now)) (2 ^ 64 - 1) }
+    ensures taken { length (spelled_segments segments.now) ≡ taken_by segments.now }
 {
     let pieces = (segments.pieces.as_slice().len() as u64).saturating_mul(4);
     added_size(segments.added.as_slice())
