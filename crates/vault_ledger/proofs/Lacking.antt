@@ -19,11 +19,11 @@ with_lacking set [] = sym (append-nil set)
     append-nil : (xs : List (List ℕ)) → xs ++ [] ≡ xs
     append-nil [] = refl
     append-nil (x ∷ xs) = ap (λ (l : List (List ℕ)). x ∷ l) (append-nil xs)
-with_lacking set (piece ∷ more) = at (list_any (λ p. bytes_eq p piece) set)
+with_lacking set (piece ∷ more) = at (λ s. with_lacking s more) (list_any (λ p. bytes_eq p piece) set)
   where
-    at : (b : Bool) → with_pieces (if b then set else set ++ piece ∷ []) more ≡ set ++ (if b then lacking set more else piece ∷ lacking (set ++ piece ∷ []) more)
-    at true = with_lacking set more
-    at false = with_lacking (set ++ piece ∷ []) more ∙ append_assoc set (piece ∷ []) (lacking (set ++ piece ∷ []) more)
+    at : ((s : List (List ℕ)) → with_pieces s more ≡ s ++ lacking s more) → (b : Bool) → with_pieces (if b then set else set ++ piece ∷ []) more ≡ set ++ (if b then lacking set more else piece ∷ lacking (set ++ piece ∷ []) more)
+    at later true = later set
+    at later false = later (set ++ piece ∷ []) ∙ append_assoc set (piece ∷ []) (lacking (set ++ piece ∷ []) more)
 
 -- slots whose pieces are distinct
 module _ (piece_of : ℕ → List ℕ) (Known : ℕ → Type 0) (apart : (s t : ℕ) → Known s → Known t → piece_of s ≡ piece_of t → s ≡ t) where
@@ -52,7 +52,7 @@ module _ (piece_of : ℕ → List ℕ) (Known : ℕ → Type 0) (apart : (s t : 
   lacking_slots seen [] knows known = refl
   lacking_slots seen (slot ∷ slots) knows known =
       ap (λ (b : Bool). if b then lacking (map piece_of seen) (map piece_of slots) else piece_of slot ∷ lacking (map piece_of seen ++ piece_of slot ∷ []) (map piece_of slots)) (among_pieces seen slot knows here)
-      ∙ at (list_any (λ s. s == slot) seen)
+      ∙ at (λ s k. lacking_slots s slots k rest) (list_any (λ s. s == slot) seen)
     where
       here : Known slot
       here = All-head Known slot slots known
@@ -60,8 +60,8 @@ module _ (piece_of : ℕ → List ℕ) (Known : ℕ → Type 0) (apart : (s t : 
       rest : All Known slots
       rest = All-tail Known slot slots known
 
-      at : (b : Bool) → (if b then lacking (map piece_of seen) (map piece_of slots) else piece_of slot ∷ lacking (map piece_of seen ++ piece_of slot ∷ []) (map piece_of slots)) ≡ map piece_of (if b then unrecorded seen slots else slot ∷ unrecorded (seen ++ slot ∷ []) slots)
-      at true = lacking_slots seen slots knows rest
-      at false = ap (λ (l : List (List ℕ)). piece_of slot ∷ l)
+      at : ((s : List ℕ) → All Known s → lacking (map piece_of s) (map piece_of slots) ≡ map piece_of (unrecorded s slots)) → (b : Bool) → (if b then lacking (map piece_of seen) (map piece_of slots) else piece_of slot ∷ lacking (map piece_of seen ++ piece_of slot ∷ []) (map piece_of slots)) ≡ map piece_of (if b then unrecorded seen slots else slot ∷ unrecorded (seen ++ slot ∷ []) slots)
+      at later true = later seen knows
+      at later false = ap (λ (l : List (List ℕ)). piece_of slot ∷ l)
           (ap (λ (l : List (List ℕ)). lacking l (map piece_of slots)) (sym (map-append piece_of seen (slot ∷ [])))
-          ∙ lacking_slots (seen ++ slot ∷ []) slots (All-push Known seen slot knows here) rest)
+          ∙ later (seen ++ slot ∷ []) (All-push Known seen slot knows here))

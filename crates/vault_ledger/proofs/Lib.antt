@@ -1,5 +1,5 @@
 pub mod Lacking
-pub mod Sealing
 pub mod Spelling
 pub mod SlotPieces
-pub mod Settling
+pub mod SealedStates
+pub mod SettledStates

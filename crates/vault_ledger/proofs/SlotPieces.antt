@@ -9,7 +9,7 @@ use Rattle.std.proofs.lemmas.Bool.Decides.{nat_tests}
 use Rattle.std.proofs.lemmas.List.{append_assoc}
 use Rattle.std.proofs.lemmas.List.Elements.{All-cons, All-nil, Contains-append_left, Contains-append_right}
 use Rattle.std.proofs.lemmas.Slice.Eq.{bytes_eq-Decides}
-use Rattle.pool_journal.specs.Segments.{NewSegment}
+use Rattle.pool_journal.specs.declared.segments.NewSegment.{NewSegment}
 use Rattle.desk_model.specs.Pieces.{pieces}
 use Rattle.copy_fragments.specs.Placings.{lacking}
 use Rattle.vault_ledger.specs.Ledger.{added_fit, are_distinct, are_whole, has_piece, has_slot, is_whole, piece_in, pieces_fit, slot_limit, spelled}
@@ -47,15 +47,15 @@ has_in slot n (s ∷ known) has = at (s.slot == slot) (s.length == n) has (λ la
 -- a slot that has a piece of this length
 pub segment_of_piece : (known : List NewSegment) (slot n : ℕ) → AreSlots known → has_piece slot n known ≡ true → (s : NewSegment) × (segment_at known slot ≡ Some s) × (s.slot ≡ slot) × (s.length ≡ n)
 segment_of_piece [] slot n apart has = absurd (false≢true has)
-segment_of_piece (s ∷ known) slot n apart has = at (s.slot == slot) refl (s.length == n) refl has
+segment_of_piece (s ∷ known) slot n apart has = at (segment_of_piece known slot n apart.1) (s.slot == slot) refl (s.length == n) refl has
   where
-    at : (a : Bool) → (s.slot == slot) ≡ a → (b : Bool) → (s.length == n) ≡ b → ((a && b) || has_piece slot n known) ≡ true → (x : NewSegment) × ((if a then Some s else segment_at known slot) ≡ Some x) × (x.slot ≡ slot) × (x.length ≡ n)
-    at true here true long is = (s, refl, grind (arith, nat_tests, here), grind (arith, nat_tests, long))
-    at true here false differs is =
+    at : (has_piece slot n known ≡ true → (x : NewSegment) × (segment_at known slot ≡ Some x) × (x.slot ≡ slot) × (x.length ≡ n)) → (a : Bool) → (s.slot == slot) ≡ a → (b : Bool) → (s.length == n) ≡ b → ((a && b) || has_piece slot n known) ≡ true → (x : NewSegment) × ((if a then Some s else segment_at known slot) ≡ Some x) × (x.slot ≡ slot) × (x.length ≡ n)
+    at later true here true long is = (s, refl, grind (arith, nat_tests, here), grind (arith, nat_tests, long))
+    at later true here false differs is =
         let same : s.slot ≡ slot = grind (arith, nat_tests, here) in
         absurd (false≢true (sym apart.0 ∙ subst (λ (k : ℕ). has_slot k known ≡ true) (sym same) (has_in slot n known is)))
-    at false there true long is = segment_of_piece known slot n apart.1 is
-    at false there false differs is = segment_of_piece known slot n apart.1 is
+    at later false there true long is = later is
+    at later false there false differs is = later is
 
 -- a segment's slot has its piece
 piece_among : (known : List NewSegment) (s : NewSegment) → Contains known s → has_piece s.slot s.length known ≡ true
@@ -76,17 +76,17 @@ own_segment (x ∷ known) s apart (zero, lt, is) = subst (λ (y : NewSegment). (
     at : (b : Bool) → (x.slot == x.slot) ≡ b → (if b then Some x else segment_at known x.slot) ≡ Some x
     at true same = refl
     at false differs = absurd (grind (arith, nat_tests, differs))
-own_segment (x ∷ known) s apart (suc k, lt, is) = at (x.slot == s.slot) refl
+own_segment (x ∷ known) s apart (suc k, lt, is) = at (own_segment known s apart.1 later) (x.slot == s.slot) refl
   where
     later : Contains known s
     later = (k, omega arith, is)
 
-    at : (b : Bool) → (x.slot == s.slot) ≡ b → (if b then Some x else segment_at known s.slot) ≡ Some s
-    at true same =
+    at : segment_at known s.slot ≡ Some s → (b : Bool) → (x.slot == s.slot) ≡ b → (if b then Some x else segment_at known s.slot) ≡ Some s
+    at rest true same =
         let named : has_slot s.slot known ≡ true = has_in s.slot s.length known (piece_among known s later) in
         let equal : x.slot ≡ s.slot = grind (arith, nat_tests, same) in
         absurd (false≢true (sym apart.0 ∙ subst (λ (j : ℕ). has_slot j known ≡ true) (sym equal) named))
-    at false differs = own_segment known s apart.1 later
+    at rest false differs = rest
 
 -- one more, whose slot none of them has
 push_slots : (known : List NewSegment) (s : NewSegment) → AreSlots known → has_slot s.slot known ≡ false → AreSlots (known ++ s ∷ [])
@@ -124,17 +124,17 @@ module _ (file : List ℕ) (size : ℕ) where
 
   pub whole_at : (known : List NewSegment) (slot : ℕ) (s : NewSegment) → are_whole file size known ≡ true → segment_at known slot ≡ Some s → length (piece_in file size s) ≡ s.length
   whole_at [] slot s whole is = absurd (cc is)
-  whole_at (x ∷ known) slot s whole is = at (x.slot == slot) is
+  whole_at (x ∷ known) slot s whole is = at (whole_at known slot s parts.1) (x.slot == slot) is
     where
       parts : (is_whole file size x ≡ true) × (are_whole file size known ≡ true)
       parts = and_parts (is_whole file size x) (are_whole file size known) whole
 
-      at : (b : Bool) → (if b then Some x else segment_at known slot) ≡ Some s → length (piece_in file size s) ≡ s.length
-      at true some =
+      at : (segment_at known slot ≡ Some s → length (piece_in file size s) ≡ s.length) → (b : Bool) → (if b then Some x else segment_at known slot) ≡ Some s → length (piece_in file size s) ≡ s.length
+      at later true some =
           let same : x ≡ s = cc some in
           let long = (and_parts (length (piece_in file size x) == x.length) (bytes_eq _ x.digest) parts.0).0 in
           subst (λ (y : NewSegment). length (piece_in file size y) ≡ y.length) same (grind (arith, nat_tests, long))
-      at false some = whole_at known slot s parts.1 some
+      at later false some = later some
 
   -- pieces that fit are full, and are those of their slots
   module _ (known : List NewSegment) (apart : AreSlots known) (whole : are_whole file size known ≡ true) where
@@ -172,15 +172,15 @@ module _ (file : List ℕ) (size : ℕ) where
   -- distinct pieces stand in distinct slots
   in_list : (known : List NewSegment) (slot : ℕ) → has_slot slot known ≡ true → list_any (λ p. bytes_eq p (piece_at known slot)) (map (piece_in file size) known) ≡ true
   in_list [] slot has = absurd (false≢true has)
-  in_list (x ∷ known) slot has = at (x.slot == slot) has
+  in_list (x ∷ known) slot has = at (in_list known slot) (x.slot == slot) has
     where
-      at : (b : Bool) → (b || has_slot slot known) ≡ true → list_any (λ p. bytes_eq p (option_map_or (piece_in file size) (if b then Some x else segment_at known slot) [])) (map (piece_in file size) (x ∷ known)) ≡ true
-      at true is = ap (λ (d : Bool). d || list_any (λ p. bytes_eq p (piece_in file size x)) (map (piece_in file size) known)) ((bytes_eq-Decides (piece_in file size x) (piece_in file size x)).1 refl)
-      at false is = or_right (bytes_eq (piece_in file size x) (piece_at known slot)) _ (in_list known slot is)
+      at : (has_slot slot known ≡ true → list_any (λ p. bytes_eq p (piece_at known slot)) (map (piece_in file size) known) ≡ true) → (b : Bool) → (b || has_slot slot known) ≡ true → list_any (λ p. bytes_eq p (option_map_or (piece_in file size) (if b then Some x else segment_at known slot) [])) (map (piece_in file size) (x ∷ known)) ≡ true
+      at later true is = ap (λ (d : Bool). d || list_any (λ p. bytes_eq p (piece_in file size x)) (map (piece_in file size) known)) ((bytes_eq-Decides (piece_in file size x) (piece_in file size x)).1 refl)
+      at later false is = or_right (bytes_eq (piece_in file size x) (piece_at known slot)) _ (later is)
 
   pub slots_apart : (known : List NewSegment) → are_distinct (map (piece_in file size) known) ≡ true → (s t : ℕ) → has_slot s known ≡ true → has_slot t known ≡ true → piece_at known s ≡ piece_at known t → s ≡ t
   slots_apart [] distinct s t has knows same = absurd (false≢true has)
-  slots_apart (x ∷ known) distinct s t has knows same = at (x.slot == s) refl (x.slot == t) refl has knows same
+  slots_apart (x ∷ known) distinct s t has knows same = at (slots_apart known parts.1 s t) (x.slot == s) refl (x.slot == t) refl has knows same
     where
       parts : (not (list_any (λ p. bytes_eq p (piece_in file size x)) (map (piece_in file size) known)) ≡ true) × (are_distinct (map (piece_in file size) known) ≡ true)
       parts = and_parts (not (list_any (λ p. bytes_eq p (piece_in file size x)) (map (piece_in file size) known))) (are_distinct (map (piece_in file size) known)) distinct
@@ -191,12 +191,12 @@ module _ (file : List ℕ) (size : ℕ) where
       never : (slot : ℕ) → has_slot slot known ≡ true → piece_in file size x ≡ piece_at known slot → ⊥
       never slot there is = false≢true (sym none ∙ subst (λ (p : List ℕ). list_any (λ q. bytes_eq q p) (map (piece_in file size) known) ≡ true) (sym is) (in_list known slot there))
 
-      at : (a : Bool) → (x.slot == s) ≡ a → (b : Bool) → (x.slot == t) ≡ b → (a || has_slot s known) ≡ true → (b || has_slot t known) ≡ true
+      at : (has_slot s known ≡ true → has_slot t known ≡ true → piece_at known s ≡ piece_at known t → s ≡ t) → (a : Bool) → (x.slot == s) ≡ a → (b : Bool) → (x.slot == t) ≡ b → (a || has_slot s known) ≡ true → (b || has_slot t known) ≡ true
           → option_map_or (piece_in file size) (if a then Some x else segment_at known s) [] ≡ option_map_or (piece_in file size) (if b then Some x else segment_at known t) [] → s ≡ t
-      at true here true there one two equal = grind (arith, nat_tests, here, there)
-      at true here false there one two equal = absurd (never t two equal)
-      at false here true there one two equal = absurd (never s one (sym equal))
-      at false here false there one two equal = slots_apart known parts.1 s t one two equal
+      at later true here true there one two equal = grind (arith, nat_tests, here, there)
+      at later true here false there one two equal = absurd (never t two equal)
+      at later false here true there one two equal = absurd (never s one (sym equal))
+      at later false here false there one two equal = later one two equal
 
   -- the pieces of segments are those of their slots
   pub own_pieces : (known more : List NewSegment) → AreSlots known → ((s : NewSegment) → Contains more s → Contains known s) → map (piece_at known) (slots_in more) ≡ map (piece_in file size) more

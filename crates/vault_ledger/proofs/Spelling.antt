@@ -9,7 +9,7 @@ use Rattle.std.proofs.lemmas.Bool.Decides.{nat_tests}
 use Rattle.std.proofs.lemmas.List.{take_all, drop_all, length-append}
 use Rattle.std.proofs.Math.Seq.{take-append_seam, drop-append_seam}
 use Rattle.std.proofs.lemmas.Slice.Eq.{bytes_eq-Decides}
-use Rattle.pool_journal.specs.Segments.{NewSegment}
+use Rattle.pool_journal.specs.declared.segments.NewSegment.{NewSegment}
 use Rattle.desk_model.specs.Pieces.{blocks, pieces}
 use Rattle.vault_ledger.specs.Ledger.{added_fit, are_distinct, are_whole, has_piece, has_slot, is_whole, piece_in, pieces_fit, spelled}
 

@@ -12,7 +12,8 @@ use Rattle.site_types.specs.declared.image.CopyRecord.{CopyRecord}
 use Rattle.site_types.specs.declared.image.ImageRecord.{ImageRecord}
 use Rattle.vault_disk.specs.Disk.{Image as DiskImage}
 use Rattle.pool_journal.specs.declared.entry.WholeImage.{WholeImage}
-use Rattle.pool_journal.specs.Segments.{NewSegment, Segments}
+use Rattle.pool_journal.specs.declared.segments.NewSegment.{NewSegment}
+use Rattle.pool_journal.specs.declared.segments.Segments.{Segments}
 use Rattle.image_catalogue.specs.Images.{is_before, same_id}
 use Rattle.desk_model.specs.State.{State, Image, Stored, with_image, with_stored, has_image}
 use Rattle.desk_model.specs.Pieces.{pieces, with_pieces}
@@ -71,22 +72,22 @@ append_nil (x ∷ xs) = ap (λ (l : List _). x ∷ l) (append_nil xs)
 -- a set that gets nothing is as it was
 stored_none : (unit : List ℕ) (sets : List Stored) → with_stored unit [] sets ≡ sets
 stored_none unit [] = refl
-stored_none unit (set ∷ sets) = at (bytes_eq set.unit unit)
+stored_none unit (set ∷ sets) = at (stored_none unit sets) (bytes_eq set.unit unit)
   where
-    at : (b : Bool) → (if b then record { unit = set.unit; pieces = with_pieces set.pieces [] } ∷ sets else set ∷ with_stored unit [] sets) ≡ set ∷ sets
-    at true = refl
-    at false = ap (λ (l : List Stored). set ∷ l) (stored_none unit sets)
+    at : with_stored unit [] sets ≡ sets → (b : Bool) → (if b then record { unit = set.unit; pieces = with_pieces set.pieces [] } ∷ sets else set ∷ with_stored unit [] sets) ≡ set ∷ sets
+    at rest true = refl
+    at rest false = ap (λ (l : List Stored). set ∷ l) rest
 
 -- an image at its place, whatever is done with each
 placed_by : (f : Image → Image) → ((i : Image) → (f i).entry ≡ i.entry) → (new : Image) (images : List Image) → map f (with_image new images) ≡ with_image (f new) (map f images)
 placed_by f keeps new [] = refl
 placed_by f keeps new (i ∷ images) =
-    at (is_before new.entry.id i.entry.id)
+    at (placed_by f keeps new images) (is_before new.entry.id i.entry.id)
     ∙ (λ j. if is_before (sym (keeps new) j).id (sym (keeps i) j).id then f new ∷ f i ∷ map f images else f i ∷ with_image (f new) (map f images))
   where
-    at : (b : Bool) → map f (if b then new ∷ i ∷ images else i ∷ with_image new images) ≡ (if b then f new ∷ f i ∷ map f images else f i ∷ with_image (f new) (map f images))
-    at true = refl
-    at false = ap (λ (l : List Image). f i ∷ l) (placed_by f keeps new images)
+    at : map f (with_image new images) ≡ with_image (f new) (map f images) → (b : Bool) → map f (if b then new ∷ i ∷ images else i ∷ with_image new images) ≡ (if b then f new ∷ f i ∷ map f images else f i ∷ with_image (f new) (map f images))
+    at rest true = refl
+    at rest false = ap (λ (l : List Image). f i ∷ l) rest
 
 module _ (c : DiskImage) (l : Ledger) (w : WholeImage) (segments : Segments) where
   abbrev unit : List ℕ
@@ -158,18 +159,17 @@ module _ (c : DiskImage) (l : Ledger) (w : WholeImage) (segments : Segments) whe
 
     sets_sealed : (sets : List Stored) → AreApart sets → map (set_over c after) sets ≡ with_stored unit (pieces size bytes) (map (set_over c l) sets)
     sets_sealed [] apart = refl
-    sets_sealed (set ∷ sets) apart = at (bytes_eq set.unit unit) refl
+    sets_sealed (set ∷ sets) apart = at (sets_sealed sets apart.1) (bytes_eq set.unit unit) refl
       where
-        at : (b : Bool) → bytes_eq set.unit unit ≡ b → set_over c after set ∷ map (set_over c after) sets ≡ (if b then record { unit = set.unit; pieces = with_pieces (pieces_on c l set.unit) (pieces size bytes) } ∷ map (set_over c l) sets else set_over c l set ∷ with_stored unit (pieces size bytes) (map (set_over c l) sets))
-        at true same =
+        at : map (set_over c after) sets ≡ with_stored unit (pieces size bytes) (map (set_over c l) sets) → (b : Bool) → bytes_eq set.unit unit ≡ b → set_over c after set ∷ map (set_over c after) sets ≡ (if b then record { unit = set.unit; pieces = with_pieces (pieces_on c l set.unit) (pieces size bytes) } ∷ map (set_over c l) sets else set_over c l set ∷ with_stored unit (pieces size bytes) (map (set_over c l) sets))
+        at rest true same =
             let name : set.unit ≡ unit = (bytes_eq-Decides set.unit unit).0 same in
             let here : pieces_on c after set.unit ≡ with_pieces (pieces_on c l set.unit) (pieces size bytes) = subst (λ (u : List ℕ). pieces_on c after u ≡ with_pieces (pieces_on c l u) (pieces size bytes)) (sym name) own_pieces in
             let later = same_sets sets (λ other among is. apart.0 other among (is ∙ sym name)) in
             λ j. record { unit = set.unit; pieces = here j } ∷ later j
-        at false differs =
+        at rest false differs =
             let here = same_set set (other_units set (λ is. false≢true (sym differs ∙ (bytes_eq-Decides set.unit unit).1 is))) in
-            let later = sets_sealed sets apart.1 in
-            λ j. here j ∷ later j
+            λ j. here j ∷ rest j
 
     sealed_state : AreApart l.outline.stored → has_image w.id l.outline.images ≡ false → spelled file size w.length segments.pieces ≡ bytes
         → state_over c after ≡ sealed (record { entry = entry; bytes = bytes }) unit (state_over c l)

@@ -10,10 +10,11 @@ use Rattle.site_types.specs.declared.request.Request.TheVariants as request
 use Rattle.site_types.specs.declared.unit.Unit.{Unit as StorageUnit}
 use Rattle.slp_tree.proofs.ListLemmas.{named-put, text_is}
 use Rattle.vault_disk.specs.Disk.{Image as DiskImage}
-use Rattle.pool_journal.specs.Segments.{NewSegment}
+use Rattle.pool_journal.specs.declared.segments.NewSegment.{NewSegment}
 use Rattle.policy_book.specs.Lists.{changed, has, named, put}
 use Rattle.policy_book.specs.Book.{Book, disk0, unit_name}
 use Rattle.policy_book.specs.Changes.{unit_of, unit_with}
+use Rattle.policy_book.specs.declared.units.UnitChange.{UnitChange}
 use Rattle.policy_book.specs.Requests.{book_after}
 use Rattle.desk_model.specs.State.{State, Image, Stored}
 use Rattle.desk_model.specs.Refusals.{first_refusal}
@@ -51,7 +52,7 @@ places_stay (request.UnitChange name capacity slots high low) s none other there
     ∙ at (bytes_eq one.0.name name) one.0
     ∙ ap (λ (o : Option StorageUnit). place (unwrap_or o disk0)) (sym one.1)
   where
-    abbrev change : _
+    change : UnitChange
     change = record { capacity = capacity; slots = slots; high = high; low = low }
 
     at : (b : Bool) (u : StorageUnit) → place (if b then unit_with change u else u) ≡ place u
@@ -94,14 +95,11 @@ module _ (c : DiskImage) (l : Ledger) (there : AreThere l) (r : Request) (none :
   -- a unit that isn't there has no live slots
   pub none_live : (name : List ℕ) (live : List LiveSlot) → ((s : LiveSlot) → Contains live s → has unit_name s.unit l.outline.site.book.units ≡ true) → has unit_name name l.outline.site.book.units ≡ false → live_on name live ≡ []
   none_live name [] known new = refl
-  none_live name (s ∷ live) known new = at (bytes_eq s.unit name) refl
+  none_live name (s ∷ live) known new = at (none_live name live (λ t has. known t (suc has.0, omega (arith, has.1), has.2)) new) (bytes_eq s.unit name) refl
     where
-      rest : live_on name live ≡ []
-      rest = none_live name live (λ t has. known t (suc has.0, omega (arith, has.1), has.2)) new
-
-      at : (b : Bool) → bytes_eq s.unit name ≡ b → map (λ (t : LiveSlot). t.segment) (if b then s ∷ filter (λ t. bytes_eq t.unit name) live else filter (λ t. bytes_eq t.unit name) live) ≡ []
-      at true same = absurd (false≢true (sym new ∙ ap (λ (n : List ℕ). has unit_name n l.outline.site.book.units) (sym (text_is s.unit name same)) ∙ known s (0, omega arith, refl)))
-      at false differs = rest
+      at : live_on name live ≡ [] → (b : Bool) → bytes_eq s.unit name ≡ b → map (λ (t : LiveSlot). t.segment) (if b then s ∷ filter (λ t. bytes_eq t.unit name) live else filter (λ t. bytes_eq t.unit name) live) ≡ []
+      at rest true same = absurd (false≢true (sym new ∙ ap (λ (n : List ℕ). has unit_name n l.outline.site.book.units) (sym (text_is s.unit name same)) ∙ known s (0, omega arith, refl)))
+      at rest false differs = rest
 
 -- a unit that is added has an empty set, and the other sets stay
 sets_settled : (c : DiskImage) (l : Ledger) (there : AreThere l) (r : Request) (none : first_refusal (setting_refusals r l.outline) ≡ None)
@@ -110,7 +108,7 @@ sets_settled c l there (request.UnitAdd name capacity segment fragment slots hig
     (λ k. same_sets c l there r none l.outline.stored (λ s has. has) k ++ empty k ∷ [])
     ∙ sym (map-append (set_over c (with_outline l (set_by r l.outline))) l.outline.stored (record { unit = name; pieces = [] } ∷ []))
   where
-    abbrev r : Request
+    r : Request
     r = request.UnitAdd name capacity segment fragment slots high low
 
     fresh : has unit_name name l.outline.site.book.units ≡ false
