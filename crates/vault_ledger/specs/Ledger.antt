@@ -1,5 +1,5 @@
 -- What a vault's journal says, and what it stands for with its pools. The journal has no bytes of images: it has the slots in which their pieces stand, and the pools' files have the bytes.
-use Rattle.std.specs.Prelude.{ℕ, ◌+◌, ◌-◌, ◌*◌, ◌==◌, Bool, true, false, ◌&&◌, not, nat_eq, nat_le, nat_lt, min, if◌then◌else◌, List, [], ◌∷◌, ◌++◌, length, take, drop, map, filter, Option, Some, None, find, flat_map, option_and_then, option_map, Result, Ok, Err}
+use Rattle.std.specs.Prelude.{ℕ, ◌+◌, ◌-◌, ◌*◌, ◌==◌, Bool, true, ◌&&◌, not, nat_le, nat_lt, min, if◌then◌else◌, List, [], ◌∷◌, ◌++◌, length, take, drop, map, filter, Option, Some, None, find, flat_map, option_and_then, option_map, Result, Ok, Err}
 use Rattle.std.specs.List.{list_any}
 use Rattle.std.specs.Option.{option_map_or}
 use Rattle.std.specs.Result.{result_ok}
@@ -13,9 +13,9 @@ use Rattle.pool_journal.specs.declared.entry.Entry.{Entry}
 use Rattle.pool_journal.specs.declared.entry.Entry.TheVariants as entry
 use Rattle.pool_journal.specs.declared.entry.WholeImage.{WholeImage}
 use Rattle.pool_journal.specs.Records.{Found, Reading, found, broken, foreign, reading}
-use Rattle.pool_journal.specs.Segments.{NewSegment, Segments}
+use Rattle.pool_journal.specs.declared.segments.NewSegment.{NewSegment}
+use Rattle.pool_journal.specs.declared.segments.Segments.{Segments}
 use Rattle.image_catalogue.specs.Images.{same_id}
-use Rattle.policy_book.specs.Book.{Book}
 use Rattle.desk_model.specs.State.{State, Image, Stored, initial}
 use Rattle.desk_model.specs.Backups.{sealed, unit_at}
 use Rattle.vault_ledger.specs.Fitting.{image_fits, settled, whole_entry, whole_unit}

@@ -1,10 +1,10 @@
 -- A pool that holds what a ledger says of its unit.
-use Rattle.std.specs.Prelude.{◌≡◌, ℕ, ◌==◌, Bool, true, false, not, if◌then◌else◌, List, [], ◌∷◌, ◌++◌, map, Some, None, Contains}
+use Rattle.std.specs.Prelude.{◌≡◌, ℕ, ◌==◌, Bool, true, false, if◌then◌else◌, List, [], ◌∷◌, ◌++◌, map, Some, None, Contains}
 use Rattle.std.specs.List.{list_any}
 use Rattle.segment_pool.specs.Slots.{PoolState, held}
 use Rattle.segment_pool.specs.declared.slot.Slot.{Slot}
 use Rattle.copy_fragments.specs.Placings.{times}
-use Rattle.pool_journal.specs.Segments.{NewSegment}
+use Rattle.pool_journal.specs.declared.segments.NewSegment.{NewSegment}
 use Rattle.vault_ledger.specs.Ledger.{has_slot}
 
 -- a live slot with the piece of a segment, which kept copies name so often
