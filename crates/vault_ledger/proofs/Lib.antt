@@ -1,0 +1,6 @@
+pub mod SpelledPieces
+pub mod FittingImages
+pub mod KeptSettings
+pub mod KeptBackups
+pub mod SoundLedgers
+pub mod Frames
