@@ -1,3 +1,9 @@
+pub mod SpelledPieces
+pub mod FittingImages
+pub mod Settling
+pub mod Sealing
+pub mod SoundLedgers
+pub mod Frames
 pub mod Lacking
 pub mod Spelling
 pub mod SlotPieces

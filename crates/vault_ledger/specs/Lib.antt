@@ -1,3 +1,4 @@
 pub mod Fitting
 pub mod Ledger
 pub mod Pools
+pub mod Wellformed

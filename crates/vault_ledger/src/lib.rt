@@ -1,3 +1,6 @@
 //! What a vault's journal says, and what it stands for with its pools.
 #![tactic(auto)]
 
+mod soundness;
+
+pub use soundness::vaults_stand_sound;

@@ -1,0 +1,132 @@
+-- Settings that are done leave what a ledger says in order.
+use Rattle.desk_model.proofs.Common.{◌≡◌, ◌≤◌, ◌∙◌, ℕ, Bool, true, false, List, [], ◌∷◌, ◌++◌, refl, sym, ap, subst, map, Option, Some, None, Result, Ok, Err, is_none, unwrap_or, ◌&&◌, if◌then◌else◌, Contains, option_map_or, bytes_eq, false≢true, and_parts, Request, StorageUnit, named, has, put, changed, Book, unit_name, disk0, unit_of, unit_with, text_is, named-put, State, Image, Stored, entries, Answer, first_refusal, setting_refusals, set_by, is_setting, first_of_client, first_under}
+use Rattle.std.proofs.lemmas.List.{map-append}
+use Rattle.std.proofs.Common.{⊎_elim}
+use Rattle.std.proofs.lemmas.List.Elements.{Contains-push_cases}
+use Rattle.std.specs.Prelude.{find}
+use Rattle.std.specs.Result.{result_ok}
+use Rattle.site_types.specs.Lines.{line_of, read_line}
+use Rattle.site_types.specs.declared.image.ImageRecord.{ImageRecord}
+use Rattle.site_types.specs.declared.request.Request.TheVariants as request
+use Rattle.site_types.proofs.OptionLemmas.{guarded, chained}
+use Rattle.policy_book.specs.declared.units.UnitChange.{UnitChange}
+use Rattle.policy_book.specs.Requests.{book_after, refusals_of}
+use Rattle.desk_model.specs.Settings.{Removal, gone_client, gone_policy, removal_of, uses_of, used_by, is_of_client, is_under, refusal_answer, stored_after}
+use Rattle.desk_model.proofs.Asking.{Asks, line_asks}
+use Rattle.desk_model.proofs.NamedLemmas.{has-put, has-changed, named-changed, some_named}
+use Rattle.desk_model.proofs.Passing.{all_passed}
+use Rattle.desk_model.proofs.SoundSteps.{set_sound}
+use Rattle.desk_model.proofs.Staying.{UnitsStay}
+use Rattle.vault_ledger.specs.Fitting.{is_settled, settled_as, settled_by, settled}
+use Rattle.vault_ledger.specs.Ledger.{Ledger, live_on, pieces_fit, slots_of, with_outline}
+use Rattle.vault_ledger.specs.Wellformed.{IsLedger, set_units}
+
+-- What refuses a request is seen of the site and of what the catalogue has.
+
+uses_same : (removal : Removal) (s : State) (images : List Image) (stored : List Stored) → entries images ≡ entries s.images → uses_of removal (record s { images = images; stored = stored }) ≡ uses_of removal s
+uses_same (gone_client name) s images stored listed = ap (λ (l : List ImageRecord). used_by name (first_of_client name l) (find (is_of_client name) s.jobs)) listed
+uses_same (gone_policy name) s images stored listed = ap (λ (l : List ImageRecord). used_by name (first_under name l) (find (is_under name) s.jobs)) listed
+
+refusals_same : (r : Request) (s : State) (images : List Image) (stored : List Stored) → entries images ≡ entries s.images → setting_refusals r (record s { images = images; stored = stored }) ≡ setting_refusals r s
+refusals_same r s images stored listed = ap (λ (l : List (Bool × Answer)). map (λ x. (x.0, refusal_answer x.1)) (refusals_of r s.site.book) ++ l) (at (removal_of r))
+  where
+    at : (o : Option Removal) → option_map_or (λ removal. uses_of removal (record s { images = images; stored = stored })) o [] ≡ option_map_or (λ removal. uses_of removal s) o []
+    at None = refl
+    at (Some removal) = uses_same removal s images stored listed
+
+-- The units stay, with their segments.
+
+unit_put_stays : (book : Book) (new : StorageUnit) → has unit_name new.name book.units ≡ false → UnitsStay book (record book { units = put unit_name new book.units })
+unit_put_stays book new fresh other there =
+    (has-put unit_name new other book.units there, ap (λ (o : Option StorageUnit). (unwrap_or o disk0).segment) (named-put unit_name new other book.units) ∙ at (bytes_eq new.name other) refl)
+  where
+    at : (b : Bool) → bytes_eq new.name other ≡ b → (unwrap_or (if b then Some new else named unit_name other book.units) disk0).segment ≡ (unwrap_or (named unit_name other book.units) disk0).segment
+    at true same = absurd (false≢true (sym fresh ∙ ap (λ (n : List ℕ). has unit_name n book.units) (text_is new.name other same) ∙ there))
+    at false differs = refl
+
+unit_with_stays : (book : Book) (name : List ℕ) (c : UnitChange) → UnitsStay book (record book { units = changed unit_name name (unit_with c) book.units })
+unit_with_stays book name c other there =
+    let one = some_named unit_name other book.units there in (
+      has-changed unit_name name (unit_with c) (λ u. refl) other book.units ∙ there,
+      ap (λ (o : Option StorageUnit). (unwrap_or o disk0).segment) (named-changed unit_name name (unit_with c) (λ u. refl) other book.units one.0 one.1) ∙ at (bytes_eq one.0.name name) one.0 ∙ ap (λ (o : Option StorageUnit). (unwrap_or o disk0).segment) (sym one.1),
+    )
+  where
+    at : (b : Bool) (u : StorageUnit) → (if b then unit_with c u else u).segment ≡ u.segment
+    at true u = refl
+    at false u = refl
+
+set_stays : (r : Request) (s : State) → first_refusal (setting_refusals r s) ≡ None → UnitsStay s.site.book (book_after r s.site.book)
+set_stays (request.UnitAdd name capacity segment fragment slots high low) s none =
+    unit_put_stays s.site.book (unit_of name _ (record { capacity = capacity; segment = segment; fragment = fragment; slots = slots; high = high; low = low })) (all_passed (setting_refusals (request.UnitAdd name capacity segment fragment slots high low) s) none).1.0
+set_stays (request.UnitChange name capacity slots high low) s none = unit_with_stays s.site.book name (record { capacity = capacity; slots = slots; high = high; low = low })
+set_stays r s none = λ name there. (there, refl)
+
+-- A set more is of the same unit.
+set_units_after : (r : Request) (sets sets' : List Stored) → set_units sets ≡ set_units sets' → set_units (stored_after r sets) ≡ set_units (stored_after r sets')
+set_units_after (request.UnitAdd name capacity segment fragment slots high low) sets sets' same =
+    let new : Stored = record { unit = name; pieces = [] } in
+    map-append (λ (set : Stored). set.unit) sets (new ∷ []) ∙ ap (λ (l : List (List ℕ)). l ++ name ∷ []) same ∙ sym (map-append (λ (set : Stored). set.unit) sets' (new ∷ []))
+set_units_after r sets sets' same = same
+
+-- a set that is added is empty
+no_pieces_after : (r : Request) (sets : List Stored) → ((set : Stored) → Contains sets set → set.pieces ≡ []) → (set : Stored) → Contains (stored_after r sets) set → set.pieces ≡ []
+no_pieces_after (request.UnitAdd name capacity segment fragment slots high low) sets none set among =
+    ⊎_elim (λ before. none set before) (λ is. ap (λ (s : Stored). s.pieces) (sym is)) (Contains-push_cases sets (record { unit = name; pieces = [] }) set among)
+no_pieces_after r sets none set among = none set among
+
+module _ (l : Ledger) (kept : IsLedger l) where
+  abbrev old : State
+  old = l.outline
+
+  set_kept : (r : Request) → Asks r → first_refusal (setting_refusals r old) ≡ None → IsLedger (with_outline l (set_by r old))
+  set_kept r asks none =
+      let shape = kept.shape in
+      let stay = set_stays r old none in
+      record {
+        shape = record {
+          images = shape.images;
+          stored = stored_after r shape.stored;
+          listed = shape.listed;
+          units = set_units_after r shape.stored old.stored shape.units;
+          sound = set_sound r (record old { images = shape.images; stored = shape.stored }) shape.sound asks (ap first_refusal (refusals_same r old shape.images shape.stored shape.listed) ∙ none);
+        };
+        no_bytes = kept.no_bytes;
+        no_pieces = no_pieces_after r old.stored kept.no_pieces;
+        live = λ s among.
+            let here = kept.live s among in
+            let there = stay s.unit here.unit in
+            record { unit = there.0; slot = here.slot; some = here.some; size = subst (λ (size : ℕ). s.segment.length ≤ size) (sym there.1) here.size };
+        apart = kept.apart;
+        images = λ image among.
+            let here = kept.images image among in
+            let there = stay here.copy.unit here.unit in
+            record { copy = here.copy; only = here.only; unit = there.0; pieces = ap (λ (size : ℕ). pieces_fit size (live_on here.copy.unit l.live) image.entry.length (slots_of image.entry.id here.copy.number l.placements)) there.1 ∙ here.pieces };
+      }
+
+-- Lines.
+
+none_there : {A : Type 0} (o : Option A) → is_none o ≡ true → o ≡ None
+none_there None is = refl
+none_there (Some x) is = absurd (false≢true is)
+
+read_ok : (line : List ℕ) (r : Request) → result_ok (read_line line) ≡ Some r → read_line line ≡ Ok r
+read_ok line r is = at (read_line line) is
+  where
+    at : (o : Result Request ℕ) → result_ok o ≡ Some r → o ≡ Ok r
+    at (Ok x) some = let same : x ≡ r = cc some in ap (λ (y : Request). Ok y) same
+    at (Err index) some = absurd (cc some)
+
+line_kept : (l : Ledger) → IsLedger l → (line : List ℕ) (t : State) → settled_by l.outline line ≡ Some t → IsLedger (with_outline l t)
+line_kept l kept line t is =
+    let s = l.outline in
+    let asked = chained (settled_as s line) (result_ok (read_line line)) t is in
+    let done = guarded (is_settled s line asked.0) (Some (set_by asked.0 s)) t asked.2 in
+    let none = none_there (first_refusal (setting_refusals asked.0 s)) (and_parts (is_setting asked.0 && bytes_eq (line_of asked.0) line) (is_none (first_refusal (setting_refusals asked.0 s))) done.0).1 in
+    let same : set_by asked.0 s ≡ t = cc done.1 in
+    subst (λ (u : State). IsLedger (with_outline l u)) same (set_kept l kept asked.0 (line_asks line asked.0 (read_ok line asked.0 asked.1)) none)
+
+pub lines_kept : (lines : List (List ℕ)) (l : Ledger) (t : State) → IsLedger l → settled l.outline lines ≡ Some t → IsLedger (with_outline l t)
+lines_kept [] l t kept is = let same : l.outline ≡ t = cc is in subst (λ (u : State). IsLedger (with_outline l u)) same kept
+lines_kept (line ∷ lines) l t kept is =
+    let first = chained (λ u. settled u lines) (settled_by l.outline line) t is in
+    lines_kept lines (with_outline l first.0) t (line_kept l kept line first.0 first.1) first.2
