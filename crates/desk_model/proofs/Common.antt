@@ -18,7 +18,7 @@ pub use Rattle.site_types.specs.declared.request.Request.{Request}
 pub use Rattle.site_types.specs.declared.id.BackupId.{BackupId}
 pub use Rattle.slp_tree.proofs.ListLemmas.{named-put, named_at, put_at, rising_put, rising_without, text_is}
 pub use Rattle.site_types.specs.declared.answer.Answer.{Answer}
-pub use Rattle.desk_model.specs.Pieces.{blocks, pieces, with_piece, with_pieces}
+pub use Rattle.desk_model.specs.Pieces.{blocks, piece_count, piece_limit, pieces, with_piece, with_pieces}
 pub use Rattle.site_types.specs.Limits.{last_moment, payload_limit}
 pub use Rattle.desk_model.specs.Restores.{has_copy, restore_case, wanted_number}
 pub use Rattle.desk_model.specs.Step.{case_of, step}

@@ -1,5 +1,9 @@
 -- Pieces of byte strings, and sets of them.
-use Rattle.desk_model.proofs.Common.{◌≡◌, ◌≢◌, ◌≤◌, ◌∙◌, ℕ, zero, suc, Bool, true, false, List, [], ◌∷◌, ◌++◌, length, get_or, take, drop, min, refl, sym, subst, arith, if◌then◌else◌, Contains, AllPairs, list_any, bytes_eq, false≢true, length-take, bytes_eq-Decides, ⊎_elim, blocks, pieces, with_piece, with_pieces}
+use Rattle.desk_model.proofs.Common.{◌≡◌, ◌≢◌, ◌≤◌, ◌-◌, ◌∙◌, ℕ, zero, suc, Bool, true, false, List, [], ◌∷◌, ◌++◌, length, get_or, take, drop, min, refl, sym, ap, subst, arith, if◌then◌else◌, ◌==◌, Contains, AllPairs, list_any, bytes_eq, false≢true, length-take, bytes_eq-Decides, nat_tests, ⊎_elim, blocks, piece_count, pieces, with_piece, with_pieces}
+use Rattle.std.specs.Int.{div_ceil}
+use Rattle.std.proofs.Math.Nat.{div-eq-sub-div, div-eq_of_lt, mod-eq-sub-mod, mod-eq_of_lt, zero-div, zero-mod}
+use Rattle.std.proofs.lemmas.Bool.{cases_lt}
+use Rattle.std.proofs.lemmas.List.{length-drop}
 use Rattle.std.proofs.lemmas.List.Elements.{Contains-append_left, Contains-push, Contains-push_cases}
 use Rattle.std.proofs.lemmas.List.Folds.{Any-from_list_any, list_any_at}
 use Rattle.std.proofs.lemmas.List.Quantifiers.{all_pairs_push}
@@ -15,6 +19,37 @@ blocks_sized (suc n) size (b ∷ bytes) some piece (suc k, lt, is) = blocks_size
 
 pub pieces_sized : (size : ℕ) (bytes : List ℕ) → 1 ≤ size → (piece : List ℕ) → Contains (pieces size bytes) piece → (1 ≤ length piece) × (length piece ≤ size)
 pieces_sized size bytes some piece among = blocks_sized (length bytes) size bytes some piece among
+
+-- How many pieces there are.
+
+none_counted : (size : ℕ) → div_ceil 0 size ≡ 0
+none_counted size = let q = zero-div size in let r = zero-mod size in omega (arith, q, r)
+
+-- one more than without the first
+first_counted : (size total : ℕ) → 1 ≤ size → 1 ≤ total → div_ceil total size ≡ suc (div_ceil (total - size) size)
+first_counted size total some full = ⊎_elim
+    (λ short.
+    let q = div-eq_of_lt short in
+    let r = mod-eq_of_lt short in
+    let left : total - size ≡ 0 = omega (arith, short) in
+    let none = ap (λ k. div_ceil k size) left ∙ none_counted size in
+    omega (arith, some, full, q, r, none))
+    (λ long. let q = div-eq-sub-div some long in let r = mod-eq-sub-mod long in omega (arith, q, r))
+    (cases_lt total size)
+
+blocks_counted : (n size : ℕ) (bytes : List ℕ) → 1 ≤ size → length bytes ≤ n → length (blocks n size bytes) ≡ div_ceil (length bytes) size
+blocks_counted zero size [] some room = sym (none_counted size)
+blocks_counted zero size (b ∷ bytes) some room = absurd (omega (arith, room))
+blocks_counted (suc n) size [] some room = sym (none_counted size)
+blocks_counted (suc n) size (b ∷ bytes) some room =
+    let left = length-drop size (b ∷ bytes) in
+    ap suc (blocks_counted n size (drop size (b ∷ bytes)) some (omega (arith, some, room, left)) ∙ ap (λ k. div_ceil k size) left)
+    ∙ sym (first_counted size (length (b ∷ bytes)) some (omega arith))
+
+pub pieces_counted : (size : ℕ) (bytes : List ℕ) → 1 ≤ size → length (pieces size bytes) ≡ piece_count size (length bytes)
+pieces_counted size bytes some =
+    let full : (size == 0) ≡ false = grind (arith, nat_tests, some) in
+    blocks_counted (length bytes) size bytes some (omega arith) ∙ (λ i. if sym full i then 0 else div_ceil (length bytes) size)
 
 -- Pieces that are added to a set.
 

@@ -1,10 +1,11 @@
 -- Rows of the table of requests, worked out on the definitions: both sides of each equation compute to one value.
-use Rattle.desk_model.proofs.Common.{◌≡◌, ℕ, List, refl, [], ◌∷◌, codes, false, Option, Some, None, replicate, unwrap_or, Answer, BackupId, Request, State, initial, load_of, step}
+use Rattle.desk_model.proofs.Common.{◌≡◌, ℕ, List, refl, [], ◌∷◌, codes, false, Option, Some, None, replicate, unwrap_or, Answer, BackupId, Request, State, disk0, first_refusal, initial, load_of, step}
+use Rattle.desk_model.specs.Backups.{content_refusals}
 use Rattle.std.specs.Fmt.{digits}
 use Rattle.std.specs.Result.{result_ok}
 use Rattle.site_types.specs.Forms.{forms}
 use Rattle.site_types.specs.Lines.{read_line}
-use Rattle.site_types.specs.declared.answer.Answer.TheVariants.{Done, Exists, Unknown, InUse, Inactive, WindowClosed, AboveHigh, UnitFull}
+use Rattle.site_types.specs.declared.answer.Answer.TheVariants.{Done, Exists, Unknown, InUse, Inactive, WindowClosed, AboveHigh, UnitFull, TooMany}
 use Rattle.site_types.specs.declared.request.Request.TheVariants as request
 use Rattle.site_types.specs.declared.schedule.Start.TheVariants.{Scheduled}
 
@@ -89,6 +90,20 @@ above_high = refl
 below_high : (step (holding 79 (Some 80)) backup (replicate 1 0) 1000).0 ≡ Done (codes "alpha_1001\n")
 unfolding digits
 below_high = refl
+
+-- what refuses so many bytes on a unit of little segments that holds none
+abbrev refused_for : ℕ → Option Answer
+refused_for size = first_refusal (content_refusals None (record disk0 { segment = 16; capacity = 16777218 }) 0 size)
+
+as_many_pieces : refused_for 16777216 ≡ None
+as_many_pieces = refl
+
+one_piece_more : refused_for 16777217 ≡ Some (TooMany (codes "pieces") 1048577 1048576)
+one_piece_more = refl
+
+-- before there is no room for them
+pieces_before_room : refused_for 16777219 ≡ Some (TooMany (codes "pieces") 1048577 1048576)
+pieces_before_room = refl
 
 -- a site file whose second request repeats its first leaves the state as it was
 repeated : load_of (Some (request.ClientAdd (codes "a") ∷ request.ClientAdd (codes "a") ∷ [])) initial ≡ (Exists (codes "a"), initial)

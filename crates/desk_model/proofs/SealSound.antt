@@ -1,5 +1,5 @@
 -- An image that fits keeps a state sound.
-use Rattle.desk_model.proofs.Common.{◌≡◌, ◌≤◌, ◌<◌, ◌+◌, ◌∙◌, ℕ, zero, suc, max, Bool, true, false, List, length, refl, sym, ap, subst, arith, Option, Some, None, is_some, unwrap_or, if◌then◌else◌, option_map, slice_get, Contains, option_map_or, bytes_eq, false≢true, bytes_eq-Decides, last_moment, BackupId, CopyRecord, Operation, StorageUnit, Client, named, has, put, Book, unit_name, client_name, policy_name, client_limit, disk0, last_of, AreById, record_named, pieces, State, Image, Stored, entries, has_image, with_stored, image_limit, takes_all, is_known, operations_in, unit_at, sealed_entry, sealed, has_copy, Sound, IsSoundImage, IsSoundCopy, IsSoundSet, IsSoundBook, IsBase, has_version, text_is}
+use Rattle.desk_model.proofs.Common.{◌≡◌, ◌≤◌, ◌<◌, ◌+◌, ◌∙◌, ℕ, zero, suc, max, Bool, true, false, List, length, refl, sym, ap, subst, arith, Option, Some, None, is_some, unwrap_or, if◌then◌else◌, option_map, slice_get, Contains, option_map_or, bytes_eq, false≢true, bytes_eq-Decides, last_moment, BackupId, CopyRecord, Operation, StorageUnit, Client, named, has, put, Book, unit_name, client_name, policy_name, client_limit, disk0, last_of, AreById, record_named, piece_count, piece_limit, pieces, State, Image, Stored, entries, has_image, with_stored, image_limit, takes_all, is_known, operations_in, unit_at, sealed_entry, sealed, has_copy, Sound, IsSoundImage, IsSoundCopy, IsSoundSet, IsSoundBook, IsBase, has_version, text_is}
 use Rattle.site_types.specs.declared.image.Base.{Base}
 use Rattle.site_types.specs.declared.image.Kind.{Kind}
 use Rattle.site_types.specs.declared.image.Expiry.TheVariants as expiry
@@ -13,7 +13,7 @@ use Rattle.desk_model.proofs.RuleLemmas.{rules_hold, AreSealed, are_sealed, need
 use Rattle.desk_model.proofs.Staying.{book_with, same_units, set_stays, image_stays}
 use Rattle.desk_model.proofs.SiteSound.{last_put, clients_put}
 
--- An image that isn't there and for which there is room, under a policy and a version of a lifecycle that are there; its client is there, or its policy takes every client and there is room for one more; its moments are within their limits.
+-- An image that isn't there and for which there is room, under a policy and a version of a lifecycle that are there; its client is there, or its policy takes every client and there is room for one more; its moments are within their limits, and so is the number of its pieces.
 pub record Fits (s : State) (entry : ImageRecord) (moment : ℕ) : Type 0 where
   pub room : length s.images < image_limit
   pub fresh : has_image entry.id s.images ≡ false
@@ -23,6 +23,7 @@ pub record Fits (s : State) (entry : ImageRecord) (moment : ℕ) : Type 0 where
   pub time : (1 ≤ entry.id.time) × (entry.id.time ≤ last_moment)
   pub base : IsBase entry.base entry.id.time
   pub completed : moment ≤ last_moment
+  pub few : piece_count (unit_at (unit_of (operations_in entry.lifecycle entry.version s.site.book)) s.site.book).segment entry.length ≤ piece_limit
 
 -- no last id time is above the last moment
 pub last_low : (book : Book) → ((c : Client) → Contains book.clients c → c.last ≤ last_moment) → (name : List ℕ) → last_of name book ≤ last_moment
@@ -87,6 +88,7 @@ module _ (s : State) (sound : Sound s) (id : BackupId) (policy schedule : List �
       moment = fits.completed;
       expiry = tt;
       pieces = λ piece among. stored_there unit more s.stored target.0.number own_set piece among;
+      few = fits.few;
     }
 
     in_time : id.time ≤ last_of id.client new

@@ -1,5 +1,5 @@
 -- Each step keeps a state sound.
-use Rattle.desk_model.proofs.Common.{rules, ◌≡◌, ◌≤◌, ◌<◌, ◌∙◌, ℕ, zero, suc, Bool, true, false, List, [], ◌∷◌, length, refl, sym, ap, subst, arith, Option, Some, None, Result, Ok, Err, is_some, unwrap_or, not, ◌&&◌, nat_le, nat_lt, fold, Contains, option_map_or, is_utf8, false≢true, nat_tests, last_moment, Answer, BackupId, Request, has, Policy, Book, policy_name, client_limit, adhoc, manual, last_of, State, initial, entries, Image, Job, has_image, Case, first_refusal, unless_refused, step_of, Asked, asked_of, image_limit, takes_all, is_known, last_time, later_job, latest_version, policy_asked, schedule_asked, backup_refusals, backup_case, base_of, image_asked, setting_refusals, set_by, zone_set, all_set, state_of, file_requests, file_case, case_of, step, Sound, IsBase, has_version}
+use Rattle.desk_model.proofs.Common.{rules, ◌≡◌, ◌≤◌, ◌<◌, ◌∙◌, ℕ, zero, suc, Bool, true, false, List, [], ◌∷◌, length, refl, sym, ap, subst, arith, Option, Some, None, Result, Ok, Err, is_some, unwrap_or, not, ◌&&◌, nat_le, nat_lt, fold, Contains, option_map_or, is_utf8, false≢true, nat_tests, last_moment, Answer, BackupId, Request, has, Policy, Book, policy_name, client_limit, adhoc, manual, last_of, State, initial, entries, Image, Job, has_image, Case, first_refusal, unless_refused, step_of, Asked, asked_of, image_limit, takes_all, is_known, last_time, later_job, latest_version, policy_asked, schedule_asked, backup_refusals, backup_case, base_of, image_asked, setting_refusals, set_by, zone_set, all_set, state_of, file_requests, file_case, case_of, step, Sound, IsBase, has_version, piece_limit}
 use Rattle.std.specs.Result.{result_ok}
 use Rattle.site_types.specs.Classes.{RequestClass, site_change, site_file, backup, restore, restore_at, class_of}
 use Rattle.site_types.specs.Requests.{read_words}
@@ -12,7 +12,7 @@ use Rattle.policy_book.specs.Requests.{schedule_of}
 use Rattle.policy_book.specs.SiteFile.{Line, change_in, change_read, changes_site, requests_of, site_requests}
 use Rattle.site_types.specs.declared.image.ImageRecord.{ImageRecord}
 use Rattle.restore_engine.proofs.ReferenceLemmas.{referenced}
-use Rattle.desk_model.specs.Backups.{reference_of}
+use Rattle.desk_model.specs.Backups.{backup_shown, reference_of}
 use Rattle.desk_model.proofs.NamedLemmas.{found_named}
 use Rattle.desk_model.proofs.Passing.{all_passed, there_is}
 use Rattle.desk_model.proofs.ImageLists.{has_one, of_entries}
@@ -165,14 +165,15 @@ module _ (s : State) (sound : Sound s) (asked : Asked) (payload : List ℕ) (mom
           let low : image.entry.id.time ≤ last_of asked.client book = subst (λ (id : BackupId). id.time ≤ last_of id.client book) one.2 (sound.images one.0 one.1).last in
           absurd (omega (arith, low, last_is))
 
-  pub backup_fits : moment ≤ last_moment → first_refusal (backup_refusals asked moment s) ≡ None → Fits s image.entry moment
-  backup_fits early none =
+  pub backup_fits : moment ≤ last_moment → first_refusal (backup_refusals asked moment s) ≡ None → first_refusal (backup_shown asked payload moment s) ≡ None → Fits s image.entry moment
+  backup_fits early none none_shown =
       let passed = all_passed (backup_refusals asked moment s) none in
       let one = there_is (policy_asked asked s) passed.1.0 in
       let found = found_named policy_name asked.policy book.policies one.0 one.1 in
       let policy_is : policy ≡ one.0 = ap (λ (o : Option Policy). unwrap_or o adhoc) one.1 in
       let full : nat_le image_limit (length s.images) ≡ false = passed.0 in
       let late : nat_lt last_moment image.entry.id.time ≡ false = passed.1.1.1.1.1.1.1.1.1.0 in
+      let many = (all_passed (backup_shown asked payload moment s) none_shown).1.0 in
       record {
         room = grind (arith, nat_tests, full);
         fresh = new_one;
@@ -184,19 +185,20 @@ module _ (s : State) (sound : Sound s) (asked : Asked) (payload : List ℕ) (mom
         time = (omega arith, grind (arith, nat_tests, late));
         base = base_below;
         completed = early;
+        few = grind (arith, nat_tests, many);
       }
 
-  pub backup_sound : moment ≤ last_moment → first_refusal (backup_refusals asked moment s) ≡ None → Sound (backup_case asked payload moment s).after
-  backup_sound early none = seal_sound s sound image.entry.id policy.name schedule.name schedule.kind image.entry.base policy.lifecycle (latest_version policy.lifecycle book) moment image.bytes (backup_fits early none)
+  pub backup_sound : moment ≤ last_moment → first_refusal (backup_refusals asked moment s) ≡ None → first_refusal (backup_shown asked payload moment s) ≡ None → Sound (backup_case asked payload moment s).after
+  backup_sound early none none_shown = seal_sound s sound image.entry.id policy.name schedule.name schedule.kind image.entry.base policy.lifecycle (latest_version policy.lifecycle book) moment image.bytes (backup_fits early none none_shown)
 
 -- Steps.
 
 -- a case whose state is sound where nothing refuses it
-case_sound : (s : State) (c : Case) → Sound s → (first_refusal c.refusals ≡ None → Sound c.after) → Sound (step_of s c).1
+case_sound : (s : State) (c : Case) → Sound s → (first_refusal c.refusals ≡ None → first_refusal c.shown ≡ None → Sound c.after) → Sound (step_of s c).1
 case_sound s c sound after = at (first_refusal c.refusals) refl
   where
-    shown : (o : Option Answer) → Sound c.after → Sound (unless_refused s o (c.answer, c.after)).1
-    shown None good = good
+    shown : (o : Option Answer) → (o ≡ None → Sound c.after) → Sound (unless_refused s o (c.answer, c.after)).1
+    shown None good = good refl
     shown (Some a) good = sound
 
     at : (o : Option Answer) → first_refusal c.refusals ≡ o → Sound (unless_refused s o (unless_refused s (first_refusal c.shown) (c.answer, c.after))).1
@@ -213,16 +215,16 @@ asked_in request.Load asks = asks
 asked_in _ asks = asks
 
 class_sound : (class : RequestClass) (s : State) (payload : List ℕ) (moment : ℕ) → AskedIn class → Sound s → moment ≤ last_moment → Sound (step_of s (case_of s class payload moment)).1
-class_sound (site_change r) s payload moment asks sound early = case_sound s (case_of s (site_change r) payload moment) sound (λ none. set_sound r s sound asks none)
-class_sound site_file s payload moment asks sound early = case_sound s (file_case (file_requests payload) s) sound (λ none. at (all_set (unwrap_or (file_requests payload) []) s) refl)
+class_sound (site_change r) s payload moment asks sound early = case_sound s (case_of s (site_change r) payload moment) sound (λ none none_shown. set_sound r s sound asks none)
+class_sound site_file s payload moment asks sound early = case_sound s (file_case (file_requests payload) s) sound (λ none none_shown. at (all_set (unwrap_or (file_requests payload) []) s) refl)
   where
     at : (result : Result State Answer) → all_set (unwrap_or (file_requests payload) []) s ≡ result → Sound (state_of s result)
     at (Ok t) is = all_set_sound (unwrap_or (file_requests payload) []) s (file_asks payload) sound t is
     at (Err a) is = sound
 class_sound (backup client policy schedule start) s payload moment asks sound early =
     case_sound s (case_of s (backup client policy schedule start) payload moment) sound (backup_sound s sound (asked_of client policy schedule start) payload moment early)
-class_sound (restore id copy) s payload moment asks sound early = case_sound s (case_of s (restore id copy) payload moment) sound (λ none. sound)
-class_sound (restore_at client policy before) s payload moment asks sound early = case_sound s (case_of s (restore_at client policy before) payload moment) sound (λ none. sound)
+class_sound (restore id copy) s payload moment asks sound early = case_sound s (case_of s (restore id copy) payload moment) sound (λ none none_shown. sound)
+class_sound (restore_at client policy before) s payload moment asks sound early = case_sound s (case_of s (restore_at client policy before) payload moment) sound (λ none none_shown. sound)
 
 pub sound_step : (s : State) (request : Request) (payload : List ℕ) (moment : ℕ) → Sound s → Asks request → moment ≤ last_moment → Sound (step s request payload moment).1
 sound_step s request payload moment sound asks early = class_sound (class_of request) s payload moment (asked_in request asks) sound early

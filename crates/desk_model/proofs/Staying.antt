@@ -1,5 +1,5 @@
 -- What a change of the site leaves sound.
-use Rattle.desk_model.proofs.Common.{◌≡◌, ◌≤◌, ◌-◌, ℕ, true, List, length, refl, sym, subst, arith, Option, Some, None, option_map, slice_get, Contains, StorageUnit, CopyRecord, Operation, Client, has, Policy, Book, unit_name, policy_name, last_of, pieces, State, Image, Stored, is_known, unit_at, Sound, IsSoundBook, IsSoundLifecycle, IsSoundPolicy, IsSoundSet, IsSoundImage, IsSoundCopy, stored_on, operations_kept}
+use Rattle.desk_model.proofs.Common.{◌≡◌, ◌≤◌, ◌-◌, ℕ, true, List, length, refl, sym, subst, arith, Option, Some, None, option_map, slice_get, Contains, StorageUnit, CopyRecord, Operation, Client, has, Policy, Book, unit_name, policy_name, last_of, piece_count, piece_limit, pieces, State, Image, Stored, is_known, unit_at, Sound, IsSoundBook, IsSoundLifecycle, IsSoundPolicy, IsSoundSet, IsSoundImage, IsSoundCopy, stored_on, operations_kept}
 use Rattle.schedule_windows.specs.Zones.{ZoneOf}
 use Rattle.slp_tree.specs.Lifecycles.{Lifecycle}
 use Rattle.desk_model.specs.declared.site.Site.{Site}
@@ -54,6 +54,7 @@ module _ (book : Book) (units : List StorageUnit) (clients : List Client) (polic
       moment = kept.moment;
       expiry = kept.expiry;
       pieces = λ piece among. stays.pieces copy.unit piece (kept.pieces piece (subst (λ (size : ℕ). Contains (pieces size image.bytes) piece) (stay copy.unit (copy_unit copy kept)).1 among));
+      few = subst (λ (size : ℕ). piece_count size (length image.bytes) ≤ piece_limit) (sym (stay copy.unit (copy_unit copy kept)).1) kept.few;
     }
 
     pub image_stays : IsSoundImage after stored' image

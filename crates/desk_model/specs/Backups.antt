@@ -35,7 +35,7 @@ use Rattle.image_kinds.specs.Images.{made}
 use Rattle.image_kinds.specs.Reading.{stream_in}
 use Rattle.image_catalogue.specs.Images.{used}
 use Rattle.restore_engine.specs.Chains.{reference}
-use Rattle.desk_model.specs.Pieces.{pieces}
+use Rattle.desk_model.specs.Pieces.{piece_count, piece_limit, pieces}
 use Rattle.desk_model.specs.State.{State, Image, Job, backup, duplication, restore, entries, with_image, with_stored}
 use Rattle.desk_model.specs.Refusals.{Case}
 
@@ -199,10 +199,11 @@ room_refusals asked policy schedule unit held moment s =
 abbrev pub stream_break : Policy → List ℕ → Option ℕ
 stream_break policy payload = if policy.files then result_err (stream_in payload) else None
 
--- and those that the payload's bytes show: they are no stream, or there is no room on the unit for what is sealed
+-- and those that the payload's bytes show: they are no stream, or what is sealed has more pieces than a copy may have, or there is no room for it on the unit
 abbrev pub content_refusals : Option ℕ → StorageUnit → ℕ → ℕ → List (Bool × Answer)
 content_refusals offset unit held size =
     (is_some offset, BadStream (unwrap_or offset 0))
+    ∷ (nat_lt piece_limit (piece_count unit.segment size), TooMany (codes "pieces") (piece_count unit.segment size) piece_limit)
     ∷ (nat_lt unit.capacity (held + size), UnitFull unit.name held size unit.capacity)
     ∷ []
 

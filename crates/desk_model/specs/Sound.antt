@@ -27,7 +27,7 @@ use Rattle.policy_book.specs.Lists.{AreByName, has}
 use Rattle.policy_book.specs.Book.{Policy, Book, unit_name, policy_name, client_limit, policy_limit, listed_limit, selection_limit, schedule_limit, PolicyOrdered, BookOrdered}
 use Rattle.policy_book.specs.Changes.{has_lifecycle, is_full, last_of}
 use Rattle.image_catalogue.specs.Images.{AreById}
-use Rattle.desk_model.specs.Pieces.{pieces}
+use Rattle.desk_model.specs.Pieces.{piece_count, piece_limit, pieces}
 use Rattle.desk_model.specs.State.{State, Image, Stored, entries}
 use Rattle.desk_model.specs.Backups.{image_limit, is_known, operations_in, unit_at}
 use Rattle.desk_model.specs.Restores.{has_copy}
@@ -128,7 +128,7 @@ abbrev pub IsBase : Base → ℕ → Type 0
 IsBase base.None time = Unit {0}
 IsBase (base.Time moment) time = (1 ≤ moment) × (moment < time)
 
--- a copy belongs to a complete operation and is on its unit; its moments are no later than the last one; and the pieces of the image's bytes are stored there
+-- a copy belongs to a complete operation and is on its unit; its moments are no later than the last one; and the pieces of the image's bytes are stored there, and are no more than a copy may have
 pub record IsSoundCopy (book : Book) (stored : List Stored) (image : Image) (copy : CopyRecord) : Type 0 where
   pub number : 1 ≤ copy.number
   pub complete : completed image.entry.states (copy.number - 1) ≡ true
@@ -136,6 +136,7 @@ pub record IsSoundCopy (book : Book) (stored : List Stored) (image : Image) (cop
   pub moment : copy.completed ≤ last_moment
   pub expiry : IsWithin copy.expiry
   pub pieces : (piece : List ℕ) → Contains (pieces (unit_at copy.unit book).segment image.bytes) piece → Contains (stored_on copy.unit stored) piece
+  pub few : piece_count (unit_at copy.unit book).segment (length image.bytes) ≤ piece_limit
 
 -- an image with its client, its policy and its version in the book; the states of its operations; its kept copies, of which the primary one and that of each needed operation is one; its bytes and its moments
 pub record IsSoundImage (book : Book) (stored : List Stored) (image : Image) : Type 0 where
