@@ -14,12 +14,12 @@ use Rattle.pool_journal.specs.declared.segments.NewSegment.{NewSegment}
 use Rattle.pool_journal.specs.declared.segments.Segments.{Segments}
 use Rattle.desk_model.proofs.ImageLists.{each-with, entries-with, same_is, same_self}
 use Rattle.desk_model.proofs.RuleLemmas.{are_sealed, rules_hold}
-use Rattle.desk_model.proofs.SealSound.{Fits, seal_sound}
+use Rattle.desk_model.proofs.SealSound.{Fits}
 use Rattle.desk_model.proofs.StoredLemmas.{each_stored, more_in}
 use Rattle.vault_ledger.specs.Fitting.{image_fits, whole_entry, whole_image, whole_unit}
 use Rattle.vault_ledger.specs.Ledger.{Ledger, LiveSlot, Placement, added_fit, backup_fits, has_slot, live_on, pieces_fit, segment_of, segments_fit, slot_limit, slots_of, with_backup}
 use Rattle.vault_ledger.specs.Wellformed.{AreApart, IsLedger, IsLive, IsPlaced, Shape, set_units}
-use Rattle.vault_ledger.proofs.FittingImages.{fits_by, fits_same}
+use Rattle.vault_ledger.proofs.FittingImages.{fits_by, fits_same, whole_sound}
 use Rattle.vault_ledger.proofs.SpelledPieces.{fit_more}
 
 -- Lists.
@@ -141,7 +141,7 @@ module _ (l : Ledger) (kept : IsLedger l) (w : WholeImage) (segments : Segments)
   segments_so = and_parts _ _ (and_parts (image_fits old w) (segments_fit size (live_on unit l.live) w.length segments) fits).1
 
   here : Fits old entry w.completed
-  here = fits_by old w w.length image_so
+  here = fits_by old w image_so
 
   unit_there : has unit_name unit book.units ≡ true
   unit_there = (are_sealed book.units (operations_in w.lifecycle w.version book) (rules_hold book kept.shape.sound.site.lifecycles w.lifecycle w.version here.version)).there
@@ -159,8 +159,7 @@ module _ (l : Ledger) (kept : IsLedger l) (w : WholeImage) (segments : Segments)
   after_sound : Sound after
   after_sound =
       let fits_before = fits_same old kept.shape.images kept.shape.stored w kept.shape.listed ∙ image_so in
-      subst (λ (n : ℕ). Sound (sealed (record { entry = sealed_entry book w.id w.policy w.schedule w.kind w.base w.lifecycle w.version w.completed n; bytes = bytes }) unit before)) (length-replicate w.length 0)
-      (seal_sound before kept.shape.sound w.id w.policy w.schedule w.kind w.base w.lifecycle w.version w.completed bytes (fits_by before w (length bytes) fits_before))
+      whole_sound before kept.shape.sound w bytes (sym (length-replicate w.length 0)) fits_before
 
   shape_new : Shape new.outline
   shape_new = record {

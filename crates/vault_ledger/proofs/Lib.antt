@@ -1,7 +1,7 @@
 pub mod SpelledPieces
 pub mod FittingImages
-pub mod Settling
-pub mod Sealing
+pub mod KeptSettings
+pub mod KeptBackups
 pub mod SoundLedgers
 pub mod Frames
 pub mod Lacking

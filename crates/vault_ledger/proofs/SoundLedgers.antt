@@ -13,6 +13,7 @@ use Rattle.pool_journal.specs.declared.entry.Entry.{Entry}
 use Rattle.pool_journal.specs.declared.entry.Entry.TheVariants as entry
 use Rattle.pool_journal.specs.Records.{Found, Reading, found, broken, foreign, reading}
 use Rattle.pool_journal.specs.declared.segments.NewSegment.{NewSegment}
+use Rattle.desk_model.specs.Pieces.{piece_count, piece_limit}
 use Rattle.desk_model.proofs.ImageLists.{of_entries}
 use Rattle.desk_model.proofs.NamedLemmas.{some_named, found_named}
 use Rattle.desk_model.proofs.Passing.{mapped_in}
@@ -221,6 +222,9 @@ module _ (c : DiskImage) (l : Ledger) where
           subst (λ (held : List (List ℕ)). Contains held piece) (sym (pieces_over unit old.stored set.0 set.1 set.2))
           (spelled_there (file unit) (segment unit) (known unit) whole e.length slots placed.pieces _ piece (subst (λ (bytes : List ℕ). Contains (pieces (segment unit) bytes) piece) bytes_are among))
 
+      size : e.length ≡ length (bytes_by c l e e.copies)
+      size = sym (spelled_long (file unit) (segment unit) (known unit) whole e.length slots placed.pieces) ∙ ap length (sym bytes_are)
+
       copy_sound : (copy : CopyRecord) → Contains e.copies copy → IsSoundCopy book sets (image_over c l image) copy
       copy_sound copy among =
           let before = was.copies copy among in
@@ -231,6 +235,7 @@ module _ (c : DiskImage) (l : Ledger) where
             moment = before.moment;
             expiry = before.expiry;
             pieces = subst (λ (k : CopyRecord). (piece : List ℕ) → Contains (pieces (segment k.unit) (bytes_by c l e e.copies)) piece → Contains (stored_on k.unit sets) piece) (one_copy e.copies copy placed.only among) pieces_there;
+            few = subst (λ (n : ℕ). piece_count (segment copy.unit) n ≤ piece_limit) (sym was.size ∙ size) before.few;
           }
 
       over_sound : IsSoundImage book sets (image_over c l image)
@@ -247,7 +252,7 @@ module _ (c : DiskImage) (l : Ledger) where
         rising = was.rising;
         primary = was.primary;
         needed = was.needed;
-        size = sym (spelled_long (file unit) (segment unit) (known unit) whole e.length slots placed.pieces) ∙ ap length (sym bytes_are);
+        size = size;
         time = was.time;
         base = was.base;
       }
