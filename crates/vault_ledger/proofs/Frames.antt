@@ -6,7 +6,7 @@ use Rattle.vault_disk.specs.Disk.{Image as DiskImage}
 use Rattle.pool_journal.specs.Records.{Reading, reading}
 use Rattle.vault_ledger.specs.Ledger.{Ledger, are_distinct, are_true, bytes_by, image_over, journal_reads, ledger_of, live_on, pieces_on, pool_file, segment_of, set_over, slots_of, stands, state_over, state_where}
 use Rattle.vault_ledger.specs.Wellformed.{IsLedger, IsPlaced}
-use Rattle.vault_ledger.proofs.SoundLedgers.{journal_kept}
+use Rattle.vault_ledger.proofs.JournalLedgers.{journal_kept}
 use Rattle.vault_ledger.proofs.SpelledPieces.{spelled_alike, whole_alike}
 
 module _ (c d : DiskImage) (l : Ledger) (same : (unit : List ℕ) → pieces_on c l unit ≡ pieces_on d l unit) where

@@ -22,8 +22,7 @@ use Rattle.vault_ledger.specs.Wellformed.{AreApart, IsLedger, IsLive, IsPlaced, 
 use Rattle.vault_ledger.proofs.FittingImages.{fits_by, fits_same, whole_sound}
 use Rattle.vault_ledger.proofs.SpelledPieces.{fit_more}
 
--- Lists.
-
+-- an element of a list of values is one of these
 pub in_mapped : {A B : Type 0} (f : A → B) (xs : List A) (y : B) → Contains (map f xs) y → (x : A) × Contains xs x × (f x ≡ y)
 in_mapped f [] y (k, lt, is) = absurd (omega arith)
 in_mapped f (x ∷ xs) y (zero, lt, is) = (x, (zero, omega arith, refl), is)
@@ -40,7 +39,7 @@ set_units_stored unit more (set ∷ sets) = at (bytes_eq set.unit unit) (set_uni
     at true rest = refl
     at false rest = ap (λ (l : List (List ℕ)). set.unit ∷ l) rest
 
--- Live slots.
+-- Live slots: those of a unit among more, and new ones of this unit or of another.
 
 abbrev slot_on : List ℕ → NewSegment → LiveSlot
 slot_on unit s = record { unit = unit; segment = s }

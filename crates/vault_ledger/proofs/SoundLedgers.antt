@@ -1,88 +1,25 @@
 -- What an image of a disk stands for is sound.
-use Rattle.desk_model.proofs.Common.{◌≡◌, ◌≢◌, ◌≤◌, ◌∙◌, ℕ, zero, suc, Bool, true, false, List, [], ◌∷◌, length, get_or, map, refl, sym, ap, subst, arith, Option, Some, None, Result, Ok, Err, cond, not, if◌then◌else◌, slice_get, Contains, AllPairs, list_any, bytes_eq, false≢true, and_parts, bytes_eq-Decides, length-map, text_is, StorageUnit, CopyRecord, has, Book, unit_name, AreById, pieces, State, Image, Stored, initial, entries, image_limit, Sound, KeepsCopies, IsSoundImage, IsSoundCopy, IsSoundSet, HasSet, stored_on}
-use Rattle.std.specs.Prelude.{filter}
+use Rattle.desk_model.proofs.Common.{◌≡◌, ◌≢◌, ◌≤◌, ◌∙◌, ℕ, zero, suc, Bool, true, false, List, [], ◌∷◌, length, get_or, map, refl, sym, ap, subst, arith, Some, Result, Ok, Err, not, if◌then◌else◌, Contains, AllPairs, list_any, bytes_eq, false≢true, and_parts, bytes_eq-Decides, length-map, text_is, CopyRecord, has, Book, unit_name, AreById, pieces, State, Image, Stored, entries, image_limit, Sound, KeepsCopies, IsSoundImage, IsSoundCopy, IsSoundSet, stored_on}
 use Rattle.std.specs.Result.{result_ok}
 use Rattle.std.proofs.lemmas.Bool.{not-true}
 use Rattle.std.proofs.lemmas.List.Folds.{list_any_at}
 use Rattle.std.proofs.lemmas.List.Kept.{AllPairs-cons}
-use Rattle.std.proofs.lemmas.Option.{slice_get-map}
 use Rattle.site_types.specs.declared.image.ImageRecord.{ImageRecord}
-use Rattle.site_types.proofs.OptionLemmas.{guarded, chained, mapped}
+use Rattle.site_types.proofs.OptionLemmas.{guarded, chained}
 use Rattle.vault_disk.specs.Disk.{Image as DiskImage}
-use Rattle.pool_journal.specs.declared.entry.Entry.{Entry}
-use Rattle.pool_journal.specs.declared.entry.Entry.TheVariants as entry
-use Rattle.pool_journal.specs.Records.{Found, Reading, found, broken, foreign, reading}
 use Rattle.pool_journal.specs.declared.segments.NewSegment.{NewSegment}
 use Rattle.desk_model.specs.Pieces.{piece_count, piece_limit}
 use Rattle.desk_model.proofs.ImageLists.{of_entries}
-use Rattle.desk_model.proofs.NamedLemmas.{some_named, found_named}
 use Rattle.desk_model.proofs.Passing.{mapped_in}
 use Rattle.desk_model.proofs.Restores.{keeps_copies}
-use Rattle.desk_model.proofs.RuleLemmas.{get_contains}
-use Rattle.desk_model.proofs.SoundSteps.{sound_initial}
-use Rattle.vault_ledger.specs.Fitting.{settled}
-use Rattle.vault_ledger.specs.Ledger.{Ledger, LiveSlot, all_recorded, are_distinct, are_true, are_whole, backup_fits, bytes_by, image_over, is_true_unit, journal_reads, ledger_of, live_on, new_ledger, piece_in, pieces_on, pool_file, recorded, recorded_from, segment_of, set_over, slots_of, spelled, stands, state_over, state_where, unless_before, with_backup, with_outline}
+use Rattle.vault_ledger.specs.Ledger.{Ledger, are_distinct, are_true, are_whole, bytes_by, image_over, is_true_unit, journal_reads, live_on, piece_in, pieces_on, pool_file, segment_of, set_over, slots_of, spelled, stands, state_over, state_where}
 use Rattle.vault_ledger.specs.Wellformed.{IsLedger, IsPlaced, set_units}
-use Rattle.vault_ledger.proofs.KeptBackups.{backup_kept, in_mapped}
-use Rattle.vault_ledger.proofs.KeptSettings.{lines_kept}
+use Rattle.vault_ledger.proofs.KeptBackups.{in_mapped}
 use Rattle.vault_ledger.proofs.SpelledPieces.{spelled_long, spelled_there, whole_at}
+use Rattle.vault_ledger.proofs.JournalLedgers.{journal_kept}
+use Rattle.vault_ledger.proofs.LedgerUnits.{live_sized, own_set, set_there, unit_of_set, units_alike}
 
--- Records.
-
-new_kept : IsLedger new_ledger
-new_kept = record {
-  shape = record { images = []; stored = initial.stored; listed = refl; units = refl; sound = sound_initial };
-  no_bytes = λ image (k, lt, is). absurd (omega arith);
-  no_pieces = only;
-  live = λ s (k, lt, is). absurd (omega arith);
-  apart = λ unit i j d below lt. absurd (omega arith);
-  images = λ image (k, lt, is). absurd (omega arith);
-}
-  where
-    only : (set : Stored) → Contains initial.stored set → set.pieces ≡ []
-    only set (zero, lt, is) = ap (λ (s : Stored). s.pieces) (sym is)
-    only set (suc k, lt, is) = absurd (omega arith)
-
-recorded_kept : (l : Ledger) → IsLedger l → (e : Entry) (m : Ledger) → recorded l e ≡ Some m → IsLedger m
-recorded_kept l kept (entry.Settings lines) m is =
-    let done = mapped (with_outline l) (settled l.outline lines) m is in
-    subst IsLedger done.2 (lines_kept lines l done.0 kept done.1)
-recorded_kept l kept (entry.BackupSealed image segments) m is =
-    let done = guarded (backup_fits l image segments) (Some (with_backup image segments l)) m is in
-    let same : with_backup image segments l ≡ m = cc done.1 in
-    subst IsLedger same (backup_kept l kept image segments done.0)
-recorded_kept l kept (entry.CopySealed id copy completed segments) m is = absurd (cc is)
-recorded_kept l kept (entry.WholeImage image) m is = absurd (cc is)
-
-all_kept : (fs : List Found) (at : ℕ) (o : Option Ledger) (m : Ledger) → ((l : Ledger) → o ≡ Some l → IsLedger l) → recorded_from at o fs ≡ Ok m → IsLedger m
-all_kept fs at None m kept is = absurd (cc is)
-all_kept [] at (Some l) m kept is = let same : l ≡ m = cc is in subst IsLedger same (kept l refl)
-all_kept (f ∷ fs) at (Some l) m kept is = all_kept fs f.at (recorded l f.is.entry) m (λ k made. recorded_kept l (kept l refl) f.is.entry k made) is
-
-reading_kept : (r : Reading) (l : Ledger) → ledger_of r ≡ Ok l → IsLedger l
-reading_kept (found fs) l is = all_kept fs 0 (Some new_ledger) l (λ k some. let same : new_ledger ≡ k = cc some in subst IsLedger same new_kept) is
-reading_kept (broken fs at) l is = never (all_recorded fs) is
-  where
-    never : (o : Result Ledger ℕ) → unless_before at o ≡ Ok l → IsLedger l
-    never (Ok k) none = absurd (cc none)
-    never (Err earlier) none = absurd (cc none)
-reading_kept (foreign at) l is = absurd (cc is)
-
--- what a journal says is in order
-pub journal_kept : (c : DiskImage) (l : Ledger) → journal_reads c ≡ Ok l → IsLedger l
-journal_kept c l is = reading_kept (reading (c 0)) l is
-
--- Lists.
-
-in_filtered : {A : Type 0} (test : A → Bool) (xs : List A) (x : A) → Contains (filter test xs) x → Contains xs x × (test x ≡ true)
-in_filtered test [] x (k, lt, is) = absurd (omega arith)
-in_filtered {A} test (y ∷ ys) x among = at (test y) refl (in_filtered test ys x) among
-  where
-    at : (b : Bool) → test y ≡ b → (Contains (filter test ys) x → Contains ys x × (test x ≡ true)) → Contains (cond b (y ∷ filter test ys) (filter test ys)) x → Contains (y ∷ ys) x × (test x ≡ true)
-    at true passes later (zero, lt, is) = ((zero, omega arith, is), ap test (sym is) ∙ passes)
-    at true passes later (suc k, lt, is) = let there = later (k, omega arith, is) in ((suc there.0.0, let inside = there.0.1 in omega (arith, inside), there.0.2), there.1)
-    at false fails later rest = let there = later rest in ((suc there.0.0, let inside = there.0.1 in omega (arith, inside), there.0.2), there.1)
-
+-- pieces that are distinct by the test are so
 distinct_all : (set : List (List ℕ)) → are_distinct set ≡ true → AllPairs (λ (a b : List ℕ). a ≢ b) set
 distinct_all [] apart = λ i j d below lt. absurd (omega arith)
 distinct_all (piece ∷ more) apart =
@@ -90,13 +27,7 @@ distinct_all (piece ∷ more) apart =
     let none : list_any (λ p. bytes_eq p piece) more ≡ false = not-true (list_any (λ p. bytes_eq p piece) more) parts.0 in
     AllPairs-cons (λ (a b : List ℕ). a ≢ b) piece more (λ k d lt same. false≢true (sym none ∙ list_any_at (λ p. bytes_eq p piece) more k d lt ((bytes_eq-Decides (get_or more k d) piece).1 (sym same)))) (distinct_all more parts.1)
 
--- sets of the same units stand alike
-units_alike : (sets sets' : List Stored) → set_units sets ≡ set_units sets' → (u : StorageUnit) → HasSet sets u → HasSet sets' u
-units_alike sets sets' same u own =
-    let unit : Stored → List ℕ = λ set. set.unit in
-    sym (slice_get-map unit sets' u.number) ∙ ap (λ (l : List (List ℕ)). slice_get l u.number) (sym same) ∙ slice_get-map unit sets u.number ∙ own
-
--- The state with the pools' bytes.
+-- The state of a ledger with the pools' bytes: its catalogue and the units of its sets are the outline's.
 
 module _ (c : DiskImage) (l : Ledger) where
   entries_over : (images : List Image) → entries (map (image_over c l) images) ≡ entries images
@@ -107,6 +38,7 @@ module _ (c : DiskImage) (l : Ledger) where
   units_over [] = refl
   units_over (set ∷ sets) = ap (λ (units : List (List ℕ)). set.unit ∷ units) (units_over sets)
 
+  -- what is stored on a unit are the pieces in its live slots
   pieces_over : (unit : List ℕ) (sets : List Stored) (set : Stored) → Contains sets set → set.unit ≡ unit → stored_on unit (map (set_over c l) sets) ≡ pieces_on c l unit
   pieces_over unit [] set (k, lt, is) same = absurd (omega arith)
   pieces_over unit (s ∷ sets) set among same = at (bytes_eq s.unit unit) refl (pieces_over unit sets set) among
@@ -116,6 +48,7 @@ module _ (c : DiskImage) (l : Ledger) where
       at false differs later (zero, lt, is) = absurd (false≢true (sym differs ∙ (bytes_eq-Decides s.unit unit).1 (ap (λ (t : Stored). t.unit) is ∙ same)))
       at false differs later (suc k, lt, is) = later (k, omega arith, is) same
 
+  -- the pool of each set is true
   true_at : (sets : List Stored) → are_true c l sets ≡ true → (set : Stored) → Contains sets set → is_true_unit c l set.unit ≡ true
   true_at [] all set (k, lt, is) = absurd (omega arith)
   true_at (s ∷ sets) all set (zero, lt, is) = ap (λ (t : Stored). is_true_unit c l t.unit) (sym is) ∙ (and_parts (is_true_unit c l s.unit) (are_true c l sets) all).0
@@ -146,41 +79,16 @@ module _ (c : DiskImage) (l : Ledger) where
     abbrev known : List ℕ → List NewSegment
     known unit = live_on unit l.live
 
-    own_set : (u : StorageUnit) → Contains book.units u → HasSet old.stored u
-    own_set u among = units_alike kept.shape.stored old.stored kept.shape.units u (sound.own_sets u among)
-
-    -- a unit of the book has its set
-    set_there : (unit : List ℕ) → has unit_name unit book.units ≡ true → (set : Stored) × Contains old.stored set × (set.unit ≡ unit)
-    set_there unit there =
-        let one = some_named unit_name unit book.units there in
-        let in_book = found_named unit_name unit book.units one.0 one.1 in
-        let set = mapped (λ (set : Stored). set.unit) (slice_get old.stored one.0.number) one.0.name (own_set one.0 in_book.1) in
-        (set.0, get_contains old.stored one.0.number set.0 set.1, set.2 ∙ in_book.0)
-
+    -- and so is that of each unit
     true_unit : (unit : List ℕ) → has unit_name unit book.units ≡ true → (are_whole (file unit) (segment unit) (known unit) ≡ true) × (are_distinct (pieces_on c l unit) ≡ true)
     true_unit unit there =
-        let set = set_there unit there in
+        let set = set_there l kept unit there in
         and_parts (are_whole (file unit) (segment unit) (known unit)) (are_distinct (pieces_on c l unit)) (subst (λ (u : List ℕ). is_true_unit c l u ≡ true) set.2 (true_at old.stored all set.0 set.1))
-
-    -- Sets.
-
-    unit_of_set : (set : Stored) → Contains old.stored set → has unit_name set.unit book.units ≡ true
-    unit_of_set set among =
-        let unit : Stored → List ℕ = λ s. s.unit in
-        let other = in_mapped unit kept.shape.stored set.unit (subst (λ (units : List (List ℕ)). Contains units set.unit) (sym kept.shape.units) (mapped_in unit old.stored set among)) in
-        subst (λ (name : List ℕ). has unit_name name book.units ≡ true) other.2 (sound.sets other.0 other.1).unit
-
-    live_sized : (unit : List ℕ) (s : NewSegment) → Contains (known unit) s → (1 ≤ s.length) × (s.length ≤ segment unit)
-    live_sized unit s among =
-        let one = in_mapped (λ (t : LiveSlot). t.segment) (filter (λ t. bytes_eq t.unit unit) l.live) s among in
-        let there = in_filtered (λ (t : LiveSlot). bytes_eq t.unit unit) l.live one.0 one.1 in
-        let live = kept.live one.0 there.0 in
-        subst (λ (t : NewSegment). (1 ≤ t.length) × (t.length ≤ segment unit)) one.2 (live.some, subst (λ (name : List ℕ). one.0.segment.length ≤ segment name) (text_is one.0.unit unit there.1) live.size)
 
     set_sound : (set : Stored) → Contains old.stored set → IsSoundSet book (set_over c l set)
     set_sound set among =
         let unit = set.unit in
-        let there = unit_of_set set among in
+        let there = unit_of_set l kept set among in
         let is_true = true_unit unit there in
         record {
           unit = there;
@@ -188,7 +96,7 @@ module _ (c : DiskImage) (l : Ledger) where
           sized = λ piece held.
               let one = in_mapped (piece_in (file unit) (segment unit)) (known unit) piece held in
               let long = whole_at (file unit) (segment unit) (known unit) is_true.0 one.0 one.1 in
-              subst (λ (p : List ℕ). (1 ≤ length p) × (length p ≤ segment unit)) one.2 (subst (λ (n : ℕ). (1 ≤ n) × (n ≤ segment unit)) (sym long) (live_sized unit one.0 one.1));
+              subst (λ (p : List ℕ). (1 ≤ length p) × (length p ≤ segment unit)) one.2 (subst (λ (n : ℕ). (1 ≤ n) × (n ≤ segment unit)) (sym long) (live_sized l kept unit one.0 one.1));
         }
 
     -- Images.
@@ -218,7 +126,7 @@ module _ (c : DiskImage) (l : Ledger) where
 
       pieces_there : (piece : List ℕ) → Contains (pieces (segment unit) (bytes_by c l e e.copies)) piece → Contains (stored_on unit sets) piece
       pieces_there piece among =
-          let set = set_there unit placed.unit in
+          let set = set_there l kept unit placed.unit in
           subst (λ (held : List (List ℕ)). Contains held piece) (sym (pieces_over unit old.stored set.0 set.1 set.2))
           (spelled_there (file unit) (segment unit) (known unit) whole e.length slots placed.pieces _ piece (subst (λ (bytes : List ℕ). Contains (pieces (segment unit) bytes) piece) bytes_are among))
 
@@ -279,7 +187,7 @@ module _ (c : DiskImage) (l : Ledger) where
           let one = in_mapped (image_over c l) old.images image among in
           subst (λ (i : Image). IsSoundImage book sets i) one.2 (image_sound one.0 one.1);
       few_images = subst (λ (n : ℕ). n ≤ image_limit) count_images sound.few_images;
-      own_sets = λ u among. units_alike old.stored sets (sym (units_over old.stored)) u (own_set u among);
+      own_sets = λ u among. units_alike old.stored sets (sym (units_over old.stored)) u (own_set l kept u among);
       no_others = count_sets ∙ sound.no_others;
       sets = λ set among.
           let one = in_mapped (set_over c l) old.stored set among in
