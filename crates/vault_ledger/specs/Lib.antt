@@ -2,3 +2,4 @@ pub mod Fitting
 pub mod Ledger
 pub mod Pools
 pub mod Wellformed
+pub mod Keeping
