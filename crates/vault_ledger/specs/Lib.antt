@@ -3,3 +3,4 @@ pub mod Ledger
 pub mod Pools
 pub mod Wellformed
 pub mod Keeping
+pub mod Copies
