@@ -64,6 +64,13 @@ impl<F: Fingerprint> Pool<F> {
         })
     }
 
+    /// The greatest length of a piece in bytes.
+    pub fn size(&self) -> u32
+        ensures { result ≡ self.now.size }
+    {
+        self.size
+    }
+
     /// Makes room for so many new pieces.
     pub fn reserve(&mut self, alloc: Global, pieces: u32) -> Result<(), NoMemory>
         ensures room { OnOk result (pieces ≤ spare self.new) }

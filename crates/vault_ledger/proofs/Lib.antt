@@ -11,3 +11,6 @@ pub mod Spelling
 pub mod SlotPieces
 pub mod SealedStates
 pub mod SettledStates
+pub mod LiveSlots
+pub mod Adoptions
+pub mod Kept

@@ -1,4 +1,5 @@
 pub mod Fitting
+pub mod Following
 pub mod Ledger
 pub mod Pools
 pub mod Wellformed
