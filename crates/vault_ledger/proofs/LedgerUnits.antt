@@ -1,5 +1,5 @@
 -- What a ledger in order has on its units.
-use Rattle.desk_model.proofs.Common.{◌≡◌, ◌≤◌, ◌∙◌, ℕ, zero, suc, Bool, true, false, List, [], ◌∷◌, refl, sym, ap, subst, arith, cond, slice_get, Contains, bytes_eq, text_is, StorageUnit, has, unit_name, Stored, HasSet}
+use Rattle.desk_model.proofs.Common.{◌≡◌, ◌≤◌, ◌∙◌, ℕ, zero, suc, Bool, true, false, List, [], ◌∷◌, refl, sym, ap, subst, arith, Option, Some, unwrap_or, option_map, cond, slice_get, Contains, bytes_eq, bytes_eq-Decides, false≢true, text_is, StorageUnit, has, unit_name, disk0, unit_at, Stored, HasSet}
 use Rattle.std.specs.Prelude.{filter}
 use Rattle.std.proofs.lemmas.Option.{slice_get-map}
 use Rattle.site_types.proofs.OptionLemmas.{mapped}
@@ -57,3 +57,26 @@ module _ (l : Ledger) (kept : IsLedger l) where
       let there = in_filtered (λ (t : LiveSlot). bytes_eq t.unit unit) l.live one.0 one.1 in
       let live = kept.live one.0 there.0 in
       subst (λ (t : NewSegment). (1 ≤ t.length) × (t.length ≤ segment_of unit l.outline)) one.2 (live.some, subst (λ (name : List ℕ). one.0.segment.length ≤ segment_of name l.outline) (text_is one.0.unit unit there.1) live.size)
+
+  -- two units of the book with one number are one
+  pub number_own : (a b : List ℕ) → has unit_name a units ≡ true → has unit_name b units ≡ true → (unit_at a l.outline.site.book).number ≡ (unit_at b l.outline.site.book).number → bytes_eq a b ≡ true
+  number_own a b a_there b_there same =
+      let u = some_named unit_name a units a_there in
+      let v = some_named unit_name b units b_there in
+      let u_found = found_named unit_name a units u.0 u.1 in
+      let v_found = found_named unit_name b units v.0 v.1 in
+      let number : u.0.number ≡ v.0.number = sym (ap (λ (o : Option StorageUnit). (unwrap_or o disk0).number) u.1) ∙ same ∙ ap (λ (o : Option StorageUnit). (unwrap_or o disk0).number) v.1 in
+      let named_so : Some u.0.name ≡ Some v.0.name = sym (own_set u.0 u_found.1) ∙ ap (λ (n : ℕ). option_map (λ (set : Stored). set.unit) (slice_get l.outline.stored n)) number ∙ own_set v.0 v_found.1 in
+      let name : u.0.name ≡ v.0.name = cc named_so in
+      (bytes_eq-Decides a b).1 (sym u_found.0 ∙ name ∙ v_found.0)
+
+  -- a unit that isn't in the book has no live slots
+  pub none_live : (unit : List ℕ) → has unit_name unit units ≡ false → live_on unit l.live ≡ []
+  none_live unit absent = nothing (live_on unit l.live) (λ s among.
+      let one = in_mapped (λ (t : LiveSlot). t.segment) (filter (λ t. bytes_eq t.unit unit) l.live) s among in
+      let there = in_filtered (λ (t : LiveSlot). bytes_eq t.unit unit) l.live one.0 one.1 in
+      false≢true (sym absent ∙ subst (λ (name : List ℕ). has unit_name name units ≡ true) (text_is one.0.unit unit there.1) (kept.live one.0 there.0).unit))
+    where
+      nothing : (known : List NewSegment) → ((s : NewSegment) → Contains known s → ⊥) → known ≡ []
+      nothing [] never = refl
+      nothing (s ∷ known) never = absurd (never s (zero, omega arith, refl))

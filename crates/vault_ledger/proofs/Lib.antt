@@ -6,6 +6,7 @@ pub mod JournalLedgers
 pub mod LedgerUnits
 pub mod SoundLedgers
 pub mod Frames
+pub mod PoolFrames
 pub mod Lacking
 pub mod Spelling
 pub mod SlotPieces

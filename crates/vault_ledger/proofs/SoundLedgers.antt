@@ -80,7 +80,7 @@ module _ (c : DiskImage) (l : Ledger) where
     known unit = live_on unit l.live
 
     -- and so is that of each unit
-    true_unit : (unit : List ℕ) → has unit_name unit book.units ≡ true → (are_whole (file unit) (segment unit) (known unit) ≡ true) × (are_distinct (pieces_on c l unit) ≡ true)
+    pub true_unit : (unit : List ℕ) → has unit_name unit book.units ≡ true → (are_whole (file unit) (segment unit) (known unit) ≡ true) × (are_distinct (pieces_on c l unit) ≡ true)
     true_unit unit there =
         let set = set_there l kept unit there in
         and_parts (are_whole (file unit) (segment unit) (known unit)) (are_distinct (pieces_on c l unit)) (subst (λ (u : List ℕ). is_true_unit c l u ≡ true) set.2 (true_at old.stored all set.0 set.1))

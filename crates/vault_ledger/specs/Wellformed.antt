@@ -1,14 +1,16 @@
 -- What holds of each ledger that a journal says.
-use Rattle.std.specs.Prelude.{◌≡◌, ◌≢◌, ◌≤◌, ◌<◌, ℕ, true, List, [], ◌∷◌, map, Contains}
+use Rattle.std.specs.Prelude.{◌≡◌, ◌≢◌, ◌≤◌, ◌<◌, ℕ, true, List, [], ◌∷◌, map, Some, Contains}
 use Rattle.std.specs.List.{AllPairs}
 use Rattle.site_types.specs.declared.image.CopyRecord.{CopyRecord}
 use Rattle.site_types.specs.declared.image.ImageRecord.{ImageRecord}
+use Rattle.segment_pool.specs.Slots.{PoolState, held}
+use Rattle.segment_pool.specs.declared.slot.Slot.{Slot}
 use Rattle.pool_journal.specs.declared.segments.NewSegment.{NewSegment}
 use Rattle.policy_book.specs.Lists.{has}
 use Rattle.policy_book.specs.Book.{unit_name}
 use Rattle.desk_model.specs.State.{State, Image, Stored, entries}
 use Rattle.desk_model.specs.Sound.{Sound}
-use Rattle.vault_ledger.specs.Ledger.{LiveSlot, Ledger, live_on, pieces_fit, segment_of, slot_limit, slots_of}
+use Rattle.vault_ledger.specs.Ledger.{LiveSlot, Ledger, live_on, pieces_fit, pool_file, segment_of, slot_limit, slots_of}
 
 -- the units of sets
 abbrev pub set_units : List Stored → List (List ℕ)
@@ -48,3 +50,10 @@ pub record IsLedger (l : Ledger) : Type 0 where
   pub live : (s : LiveSlot) → Contains l.live s → IsLive l.outline s
   pub apart : (unit : List ℕ) → AreApart (live_on unit l.live)
   pub images : (image : Image) → Contains l.outline.images image → IsPlaced l image.entry
+
+-- the pool is that of a unit in the book, and each of the unit's live slots is held there with its length
+pub record IsPoolOf (l : Ledger) (unit : List ℕ) (pool : PoolState) : Type 0 where
+  pub there : has unit_name unit l.outline.site.book.units ≡ true
+  pub file : pool.file ≡ pool_file unit l.outline
+  pub size : pool.size ≡ segment_of unit l.outline
+  pub live : (s : NewSegment) → Contains (live_on unit l.live) s → (what : Slot) × (held pool s.slot ≡ Some what) × (what.length ≡ s.length)
