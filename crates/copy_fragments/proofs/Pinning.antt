@@ -13,7 +13,7 @@ use Rattle.copy_fragments.specs.PlacingSteps.{ArePinned, UnpinnedEach}
 same_time : (s : ℕ) → ◌≡◌ {A = ℕ} (cond (s == s) 1 0) 1
 same_time s = grind (arith, nat_tests)
 
-other_time : (s t : ℕ) → t ≢ s → ◌≡◌ {A = ℕ} (cond (s == t) 1 0) 0
+pub other_time : (s t : ℕ) → t ≢ s → ◌≡◌ {A = ℕ} (cond (s == t) 1 0) 0
 other_time s t ne = grind (arith, nat_tests)
 
 -- one slot more in a list

@@ -80,7 +80,7 @@ placed_before start now new slots so_far before = record {
 }
 
 -- where the lowest free slot is: it is no greater than the number of held ones
-first_free : List (Option Slot) → ℕ
+abbrev first_free : List (Option Slot) → ℕ
 first_free [] = zero
 first_free (None ∷ table) = zero
 first_free (Some what ∷ table) = suc (first_free table)
