@@ -73,9 +73,10 @@ fn take_memory<F: Fingerprint>(
     let Ok(pieces) = u32::try_from(count) else {
         return Err(AllocError);
     };
+    let placed = Vec::with_capacity(alloc, pieces as usize)?;
     slots.reserve(pieces as usize)?;
     pool.reserve(alloc, pieces)?;
-    Vec::with_capacity(alloc, pieces as usize)
+    Ok(placed)
 }
 
 // Places each piece of the bytes in turn, until one is refused. The slots are added to the list, which has room for them.
