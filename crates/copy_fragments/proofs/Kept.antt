@@ -12,6 +12,7 @@ use Rattle.segment_pool.specs.Placing.{KeepsPieces, Touches, bytes_in}
 use Rattle.segment_pool.specs.Slots.{PoolState}
 use Rattle.segment_pool.specs.declared.slot.Slot.{Slot}
 use Rattle.segment_pool.proofs.PieceLemmas.{begins_within, piece_at}
+use Rattle.copy_fragments.specs.Copies.{IsPieceCount}
 use Rattle.copy_fragments.specs.Placings.{PinnedEach, times}
 use Rattle.copy_fragments.proofs.Parts.{one_more}
 
@@ -66,16 +67,25 @@ piece_bounds size i bytes piece some is =
     let same : take size (drop (i * size) bytes) ≡ piece = let here = piece_at size i bytes some start in cc (here, is) in
     (omega (arith, ap length same, start, some, length-take size (drop (i * size) bytes), length-drop (i * size) bytes), omega (arith, ap length same, length-take size (drop (i * size) bytes)))
 
--- there are at most as many pieces as bytes, and as many as were counted
+-- there are at most as many pieces as bytes
 pub few_pieces : (size : ℕ) (bytes : List ℕ) → 1 ≤ size → length (pieces size bytes) ≤ length bytes
 few_pieces size bytes some = ⊎_elim
     (λ lt. let start = begins_within size (length bytes) bytes some lt in absurd (omega (arith, start, mul-le-mul_left (length bytes) some)))
     (λ le. le) (cases_lt (length bytes) (length (pieces size bytes)))
 
-pub counted_pieces : (size count : ℕ) (bytes : List ℕ) → 1 ≤ size → length bytes ≤ count * size → length (pieces size bytes) ≤ count
-counted_pieces size count bytes some enough = ⊎_elim
-    (λ lt. absurd (omega (arith, begins_within size count bytes some lt, enough)))
-    (λ le. le) (cases_lt count (length (pieces size bytes)))
+-- and as many as were counted
+pub counted_pieces : (size count : ℕ) (bytes : List ℕ) → 1 ≤ size → IsPieceCount count size (length bytes) → count ≡ length (pieces size bytes)
+counted_pieces size count bytes some counted =
+    let n : ℕ = length (pieces size bytes) in
+    ⊎_elim
+    (λ lt.
+    let le : (length (pieces size bytes) + 1) * size ≤ count * size = mul-le-mul_right size (let z : length (pieces size bytes) + 1 ≤ count = omega (arith, lt) in z) in
+    let begins : length (pieces size bytes) * size < length bytes = omega (arith, le, one_more (length (pieces size bytes)) size, counted.none_empty) in
+    absurd (omega (arith, slice_get_within (pieces size bytes) n _ (piece_at size n bytes some begins))))
+    (λ le. ⊎_elim
+    (λ lt. absurd (omega (arith, begins_within size count bytes some lt, counted.enough)))
+    (λ ge. omega (arith, le, ge)) (cases_lt count n))
+    (cases_lt n count)
 
 -- the slot before the end of so many
 pub slot_end : (size slot n count : ℕ) → slot + 1 ≤ count → n ≤ size → slot * size + n ≤ count * size

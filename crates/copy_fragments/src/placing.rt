@@ -69,14 +69,23 @@ fn take_memory<F: Fingerprint>(
     ensures sound { OnOk result (AreSound pool.new.size pool.new.table) }
     ensures some { OnOk result (1 ≤ cut.now.size) }
 {
-    let count = piece_count(cut.bytes().len() as u64, cut.size());
-    let Ok(pieces) = u32::try_from(count) else {
-        return Err(AllocError);
-    };
+    let pieces = count_pieces(cut)?;
     let placed = Vec::with_capacity(alloc, pieces as usize)?;
     slots.reserve(pieces as usize)?;
     pool.reserve(alloc, pieces)?;
     Ok(placed)
+}
+
+// How many pieces the bytes have. So many that their slots have no number can't stand in memory.
+fn count_pieces<F: Fingerprint>(cut: &Cut<'_, F>) -> Result<u32, NoMemory>
+    ensures count { IfOk result (λ count. count ≡ length (pieces cut.now.size cut.now.bytes)) }
+    ensures some { 1 ≤ cut.now.size }
+{
+    let count = piece_count(cut.bytes().len() as u64, cut.size());
+    let Ok(count) = u32::try_from(count) else {
+        return Err(AllocError);
+    };
+    Ok(count)
 }
 
 // Places each piece of the bytes in turn, until one is refused. The slots are added to the list, which has room for them.
