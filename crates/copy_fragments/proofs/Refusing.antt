@@ -13,7 +13,7 @@ use Rattle.segment_pool.specs.declared.fault.PoolFault.TheVariants as fault
 use Rattle.segment_pool.specs.declared.fault.ReadTrouble.TheVariants as trouble
 use Rattle.segment_pool.specs.declared.slot.Slot.{Slot}
 use Rattle.copy_fragments.specs.Placings.{PinnedEach, PlacingFails, PlacingTold, held_pieces, lacking, new_pieces, times}
-use Rattle.copy_fragments.specs.PlacingSteps.{HasPieces, PlacedSoFar, StaysTrue}
+use Rattle.copy_fragments.specs.PlacingSteps.{HasPieces, IsDamageOf, PlacedSoFar, StaysTrue}
 use Rattle.copy_fragments.proofs.Kept.{keeps_from, keeps_wider, slot_end, touches_as, touches_on, touches_wider}
 use Rattle.copy_fragments.proofs.Lacking.{front_lacking}
 use Rattle.copy_fragments.proofs.Progress.{lowest_there}
@@ -31,6 +31,13 @@ no_want pool digest before now fault.NoMemory some holds same = omega (arith, so
 no_want pool digest before now fault.DiskFault some holds same = absurd (cc (same))
 no_want pool digest before now (fault.Damaged recorded found) some holds same = absurd (cc (same))
 no_want pool digest before now (fault.Full count) some holds same = absurd (cc (same))
+
+-- whose recorded digest a damage tells
+pub damage_of : (digest_of : List ℕ → List ℕ) (pool : PoolState) (all : List (List ℕ)) (index : ℕ) (piece digest : List ℕ) (before now : ℕ) (e : PoolFault) → slice_get all index ≡ Some piece → digest ≡ digest_of piece → FaultHolds pool digest before now e → IsDamageOf digest_of all e
+damage_of digest_of pool all index piece digest before now fault.NoMemory at is holds = tt
+damage_of digest_of pool all index piece digest before now fault.DiskFault at is holds = tt
+damage_of digest_of pool all index piece digest before now (fault.Damaged recorded found) at is holds = (index, piece, at, holds ∙ is)
+damage_of digest_of pool all index piece digest before now (fault.Full count) at is holds = tt
 
 -- why it is refused, over any vault
 pub fails_cause : (start now : PoolState) (done digest : List ℕ) (before mid after : ℕ) (e : PoolFault) → PlacedSoFar start now done → before ≤ mid → FaultHolds now digest mid after e → (IsDamage e → ⊥) → PlacingFails start before after e

@@ -7,7 +7,7 @@ ghost use Rattle.segment_pool.specs.Faults.{IsDamage, IsDiskFault};
 ghost use Rattle.segment_pool.specs.Slots.{AreSound, IsAsBefore, IsPinnedAtMost, PoolState, number_held, spare};
 ghost use Rattle.copy_fragments.specs.Copies.{IsPlaced};
 ghost use Rattle.copy_fragments.specs.Placings.{HoldsMore, PinnedEach, PlacingFails, PlacingTold, copy_in, new_pieces};
-ghost use Rattle.copy_fragments.specs.PlacingSteps.{ArePinned, HasPieces, PlacedSoFar, StaysTrue, UnpinnedEach};
+ghost use Rattle.copy_fragments.specs.PlacingSteps.{ArePinned, HasPieces, IsDamageOf, PlacedSoFar, StaysTrue, UnpinnedEach};
 
 use crate::copy_map::piece_count;
 use segment_pool::{Cut, Fingerprint, NoMemory, Pool, PoolFault};
@@ -35,6 +35,7 @@ pub fn place<V: Vault, F: Fingerprint>(
     ensures refused { OnErr result (IsAsBefore pool.old pool.new × (slots.new.items ≡ slots.old.items)) }
     ensures cause { IfErr result (λ fault. ¬ IsDamage fault → PlacingFails pool.old (V.disk vault.old).faults (V.disk vault.new).faults fault) }
     ensures cause_told { (V.disk vault.old).tells → IfErr result (PlacingFails pool.old (V.disk vault.old).faults (V.disk vault.new).faults) }
+    ensures damaged { IfErr result (IsDamageOf F.digest_of (pieces cut.now.size cut.now.bytes)) }
     ensures memory { IfErr result (λ fault. fault ≡ PoolFault.NoMemory → vault.new ≡ vault.old) }
     ensures told { (V.disk vault.old).tells → IsTruePool F.digest_of pool.old (V.disk vault.old).seen → IfErr result (PlacingTold F.digest_of pool.old (V.disk vault.old).seen cut.now.bytes) }
     ensures undamaged { (V.disk vault.old).tells → IsTruePool F.digest_of pool.old (V.disk vault.old).seen → IfErr result (λ fault. ¬ IsDamage fault) }
@@ -108,6 +109,7 @@ fn place_each<V: Vault, F: Fingerprint>(
     ensures stays_true { (V.disk vault.old).tells → (start : PoolState) → IsAsBefore start pool.old → IsTruePool F.digest_of start (V.disk vault.old).seen → OnOk result (StaysTrue F.digest_of start pool.new (V.disk vault.old) (V.disk vault.new) (pieces cut.now.size cut.now.bytes) placed.new.items) }
     ensures cause { (start : PoolState) → IsAsBefore start pool.old → IfErr result (λ fault. ¬ IsDamage fault → PlacingFails start (V.disk vault.old).faults (V.disk vault.new).faults fault) }
     ensures cause_told { (V.disk vault.old).tells → (start : PoolState) → IsAsBefore start pool.old → IfErr result (PlacingFails start (V.disk vault.old).faults (V.disk vault.new).faults) }
+    ensures damaged { IfErr result (IsDamageOf F.digest_of (pieces cut.now.size cut.now.bytes)) }
     ensures memory { IfErr result (λ fault. fault ≢ PoolFault.NoMemory) }
     ensures told { (V.disk vault.old).tells → (start : PoolState) → IsAsBefore start pool.old → IsTruePool F.digest_of start (V.disk vault.old).seen → IfErr result (PlacingTold F.digest_of start (V.disk vault.old).seen cut.now.bytes) }
     ensures undamaged { (V.disk vault.old).tells → (start : PoolState) → IsAsBefore start pool.old → IsTruePool F.digest_of start (V.disk vault.old).seen → IfErr result (λ fault. ¬ IsDamage fault) }

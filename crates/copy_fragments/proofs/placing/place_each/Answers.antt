@@ -9,10 +9,11 @@ use Rattle.segment_pool.specs.Slots.{number_held}
 use Rattle.segment_pool.specs.declared.fault.PoolFault.TheVariants as fault
 use Rattle.segment_pool.proofs.Changes.{as_before_self}
 use Rattle.copy_fragments.specs.Placings.{PlacingFails, PlacingTold, held_pieces, lacking}
-use Rattle.copy_fragments.specs.PlacingSteps.{HasPieces, PlacedSoFar, StaysTrue}
+use Rattle.copy_fragments.specs.PlacingSteps.{HasPieces, IsDamageOf, PlacedSoFar, StaysTrue}
 use Rattle.copy_fragments.proofs.Kept.{few_pieces, piece_bounds}
+use Rattle.copy_fragments.proofs.Pinning.{few_pins}
 use Rattle.copy_fragments.proofs.Progress.{placed_before, placed_on, spare_on}
-use Rattle.copy_fragments.proofs.Refusing.{err_is, fails_cause, fails_told, no_want, seen_refused, told_full, touches_all, touches_refused}
+use Rattle.copy_fragments.proofs.Refusing.{damage_of, err_is, fails_cause, fails_told, no_want, seen_refused, told_full, touches_all, touches_refused}
 use Rattle.copy_fragments.proofs.Taking.{has_on, taken_by, true_on}
 use Rattle.copy_fragments.proofs.placing.place_each.Goals as goal
 
@@ -27,7 +28,7 @@ find_or_place-requires-clause-short g c =
 pub find_or_place-requires-clause-pins : goal.find_or_place-requires-clause-pins
 find_or_place-requires-clause-pins g c = λ slot what is.
     let far = c.loop-piece.invariant.slots c.args.pool.now (as_before_self c.args.pool.now) in
-    omega (arith, far.pins c.requires.pins.0 c.requires.pins.1 slot what is, c.loop-piece.invariant.count, few_pieces c.args.cut.now.size c.args.cut.now.bytes c.requires.some, c.loop-piece.invariant.within, c.requires.pins.2)
+    omega (arith, few_pins c.args.pool.now c.loop-piece.pool c.loop-piece.placed.items c.requires.pins.0 far.pinned c.requires.pins.1 slot what is, c.loop-piece.invariant.count, few_pieces c.args.cut.now.size c.args.cut.now.bytes c.requires.some, c.loop-piece.invariant.within, c.requires.pins.2)
 
 pub returns-in_err-slot-clause-slots : goal.returns-in_err-slot-clause-slots
 returns-in_err-slot-clause-slots g c = λ start before. placed_before start c.loop-piece.pool c.find_or_place.new.self c.loop-piece.placed.items (c.loop-piece.invariant.slots start before) c.in_err-slot.ensures.refused
@@ -36,6 +37,11 @@ pub returns-in_err-slot-clause-cause : goal.returns-in_err-slot-clause-cause
 returns-in_err-slot-clause-cause g c = λ start before.
     err_is c.from_residual.result c.in_err-slot.field-0.0 (λ e. (IsDamage e → ⊥) → PlacingFails start (g.V.Vault.disk c.args.vault.now).faults (g.V.Vault.disk c.find_or_place.new.vault).faults e) (search rules)
     (fails_cause start c.loop-piece.pool c.loop-piece.placed.items c.in-Some.piece.1 _ (g.V.Vault.disk c.loop-piece.vault).faults _ c.in_err-slot.field-0.0 (c.loop-piece.invariant.slots start before) c.loop-piece.invariant.same.faults c.in_err-slot.ensures.cause)
+
+pub returns-in_err-slot-clause-damaged : goal.returns-in_err-slot-clause-damaged
+returns-in_err-slot-clause-damaged g c =
+    err_is c.from_residual.result c.in_err-slot.field-0.0 (IsDamageOf g.F.Fingerprint.digest_of (pieces c.args.cut.now.size c.args.cut.now.bytes)) (search rules)
+    (damage_of g.F.Fingerprint.digest_of c.loop-piece.pool (pieces c.args.cut.now.size c.args.cut.now.bytes) c.loop-piece.index c.in-Some.piece.0.now c.in-Some.piece.1 _ _ c.in_err-slot.field-0.0 c.in-Some.ensures.0 c.in-Some.ensures.1 c.in_err-slot.ensures.cause)
 
 pub returns-in_err-slot-clause-memory : goal.returns-in_err-slot-clause-memory
 returns-in_err-slot-clause-memory g c =
@@ -111,7 +117,7 @@ loop-piece-preserved g c =
       spare = omega (arith, i.spare, spare_on c.loop-piece.pool c.find_or_place.new.self c.in_ok-slot.slot (length c.in-Some.piece.0.now) c.in-Some.piece.1 c.in_ok-slot.ensures.pinned);
       same = same_on i.same c.find_or_place.ensures.same;
       slots = λ start before. subst (λ (l : List ℕ). PlacedSoFar start c.find_or_place.new.self l) (sym items)
-          (placed_on start c.loop-piece.pool c.find_or_place.new.self c.in_ok-slot.slot (length c.in-Some.piece.0.now) c.in-Some.piece.1 c.loop-piece.placed.items (i.slots start before) c.in_ok-slot.ensures.pinned c.find_or_place.ensures.pins);
+          (placed_on start c.loop-piece.pool c.find_or_place.new.self c.in_ok-slot.slot (length c.in-Some.piece.0.now) c.in-Some.piece.1 c.loop-piece.placed.items (i.slots start before) c.in_ok-slot.ensures.pinned);
       has = λ told start before. subst (λ (l : List ℕ). HasPieces g.F.Fingerprint.digest_of start c.find_or_place.new.self (g.V.Vault.disk c.args.vault.now) (g.V.Vault.disk c.find_or_place.new.vault) (pieces c.args.cut.now.size c.args.cut.now.bytes) l) (sym items)
           (has_on g.F.Fingerprint.digest_of c.loop-piece.pool c.find_or_place.new.self (g.V.Vault.disk c.loop-piece.vault) (g.V.Vault.disk c.find_or_place.new.vault) c.in_ok-slot.slot c.in-Some.piece.0.now c.in-Some.piece.1 (taken told) start (g.V.Vault.disk c.args.vault.now) _ c.loop-piece.placed.items (i.slots start before) (i.has told start before) i.same here);
       stays_true = λ told start before true_pool. let stays = i.stays_true told start before true_pool in
