@@ -4,7 +4,7 @@ use Rattle.std.specs.Prelude.{Bool, Option, cond, if◌then◌else◌, ◌||◌,
 use Rattle.std.specs.List.{count_by}
 use Rattle.std.proofs.lemmas.Bool.{cases_eq, cases_lt}
 use Rattle.std.proofs.lemmas.Bool.Decides.{nat_tests}
-use Rattle.std.proofs.lemmas.List.Sums.{sum_by-cons, sum_by_more, sum_by_push, sum_by-take-le}
+use Rattle.std.proofs.lemmas.List.Sums.{count_by-le-length, sum_by-cons, sum_by_more, sum_by_push, sum_by-take-le}
 use Rattle.segment_pool.specs.declared.slot.Slot.{Slot}
 use Rattle.segment_pool.specs.Slots.{AreSound, Becomes, IsAsBefore, IsPinnedAtMost, PinnedAgain, Placed, PoolState, at_slot, held, number_held, one_if_held, room_beside, while_held}
 use Rattle.copy_fragments.specs.Placings.{PinnedEach, times}
@@ -13,7 +13,7 @@ use Rattle.copy_fragments.specs.PlacingSteps.{ArePinned, UnpinnedEach}
 same_time : (s : ℕ) → ◌≡◌ {A = ℕ} (cond (s == s) 1 0) 1
 same_time s = grind (arith, nat_tests)
 
-other_time : (s t : ℕ) → t ≢ s → ◌≡◌ {A = ℕ} (cond (s == t) 1 0) 0
+pub other_time : (s t : ℕ) → t ≢ s → ◌≡◌ {A = ℕ} (cond (s == t) 1 0) 0
 other_time s t ne = grind (arith, nat_tests)
 
 -- one slot more in a list
@@ -194,6 +194,23 @@ module _ (start now : PoolState) (slots : List ℕ) (each : PinnedEach start now
 
   pub are_pinned : ArePinned now slots
   are_pinned slot some = are_pinned_at slot (held start slot) refl some
+
+-- no slot is pinned more often than before by more than so many slots
+module _ (start now : PoolState) (slots : List ℕ) (most : ℕ) (each : PinnedEach start now slots) (few : IsPinnedAtMost most start) where
+  few_pins_at : (slot : ℕ) (o : Option Slot) (what : Slot) → held start slot ≡ o → held now slot ≡ Some what → what.pins ≤ most + length slots
+  few_pins_at slot (Some w) what is now_is =
+      let same : what ≡ with_pins w (w.pins + times slot slots) = let a = each.again slot w is in cc (a, now_is) in
+      omega (arith, ap (λ (x : Slot). x.pins) same, few slot w is, count_by-le-length (λ (s : ℕ). s == slot) slots)
+  few_pins_at slot None what is now_is = ⊎_elim
+      (λ some.
+      let had = each.placed slot is some in
+      let same : what ≡ had.0 = let a = had.1 in cc (a, now_is) in
+      omega (arith, ap (λ (x : Slot). x.pins) same, had.3, count_by-le-length (λ (s : ℕ). s == slot) slots))
+      (λ none. absurd (not_none (held now slot) what (each.others slot is (omega (arith, none))) now_is))
+      (cases_lt 0 (times slot slots))
+
+  pub few_pins : IsPinnedAtMost (most + length slots) now
+  few_pins slot what is = few_pins_at slot (held start slot) what refl is
 
 freed : (what : Slot) → what.live ≡ false → what.pins ≡ 0 → while_held what ≡ None
 freed what dead none = (λ i. if (dead i) || nat_lt 0 (none i) then Some what else None)

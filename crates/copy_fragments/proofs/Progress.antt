@@ -34,25 +34,21 @@ pub none_placed : (start now : PoolState) → IsAsBefore start now → PlacedSoF
 none_placed start now before = record {
   pinned = pinned_none start now before;
   beside = before.beside;
-  pins = λ most few s what is. omega (arith, few s what (sym (before.same s) ∙ is));
   no_fewer = omega (arith, before.number);
   no_more = omega (arith, before.number);
   fits = inl before.number;
 }
 
 -- one piece more is placed
-pub placed_on : (start now new : PoolState) (slot n : ℕ) (digest done : List ℕ) → PlacedSoFar start now done → PinnedAgain now new slot n digest ⊎ Placed now new slot n digest → ((most : ℕ) → IsPinnedAtMost most now → IsPinnedAtMost (most + 1) new) → PlacedSoFar start new (done ++ slot ∷ [])
-placed_on start now new slot n digest done so_far pinned pins =
+pub placed_on : (start now new : PoolState) (slot n : ℕ) (digest done : List ℕ) → PlacedSoFar start now done → PinnedAgain now new slot n digest ⊎ Placed now new slot n digest → PlacedSoFar start new (done ++ slot ∷ [])
+placed_on start now new slot n digest done so_far pinned =
     let long : length (done ++ slot ∷ []) ≡ length done + 1 = length-append done (slot ∷ []) in
-    let few : (most : ℕ) → IsPinnedAtMost most start → IsPinnedAtMost (most + length (done ++ slot ∷ [])) new =
-    λ most few s what is. omega (arith, long, pins (most + length done) (so_far.pins most few) s what is) in
     ⊎_elim
     (λ again.
     let number = again_number now new slot n digest again in
     record {
       pinned = pinned_again start now new slot n digest done (done ++ slot ∷ []) (push_more slot done) so_far.pinned again;
       beside = λ k. omega (arith, so_far.beside k, again.now.beside k);
-      pins = few;
       no_fewer = omega (arith, so_far.no_fewer, number);
       no_more = omega (arith, so_far.no_more, number, long);
       fits = ⊎_elim (λ same. inl (number ∙ same)) (λ le. inr (omega (arith, le, number))) so_far.fits;
@@ -62,7 +58,6 @@ placed_on start now new slot n digest done so_far pinned pins =
     record {
       pinned = pinned_new start now new slot n digest done (done ++ slot ∷ []) (push_more slot done) so_far.pinned placed;
       beside = λ k. omega (arith, so_far.beside k, placed.now.beside k);
-      pins = few;
       no_fewer = omega (arith, so_far.no_fewer, number);
       no_more = omega (arith, so_far.no_more, number, long);
       fits = inr (omega (arith, number, placed.fits, so_far.pinned.limit));
@@ -73,14 +68,13 @@ pub placed_before : (start now new : PoolState) (slots : List ℕ) → PlacedSoF
 placed_before start now new slots so_far before = record {
   pinned = pinned_before start now new slots so_far.pinned before;
   beside = λ k. omega (arith, so_far.beside k, before.beside k);
-  pins = λ most few s what is. so_far.pins most few s what (sym (before.same s) ∙ is);
   no_fewer = omega (arith, so_far.no_fewer, before.number);
   no_more = omega (arith, so_far.no_more, before.number);
   fits = ⊎_elim (λ same. inl (before.number ∙ same)) (λ le. inr (omega (arith, le, before.number))) so_far.fits;
 }
 
 -- where the lowest free slot is: it is no greater than the number of held ones
-first_free : List (Option Slot) → ℕ
+abbrev first_free : List (Option Slot) → ℕ
 first_free [] = zero
 first_free (None ∷ table) = zero
 first_free (Some what ∷ table) = suc (first_free table)

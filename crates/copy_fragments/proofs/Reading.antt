@@ -63,7 +63,7 @@ undamaged_part digest_of pool image copy at n (Ok v) true_pool some = tt
 undamaged_part digest_of pool image copy at n (Err t) true_pool some = undamaged digest_of pool image some.slot t true_pool some.holds
 
 -- a slot that has the piece isn't damaged
-has_undamaged : (digest_of : List ℕ → List ℕ) (pool : PoolState) (image : Image) (slot : ℕ) (piece : List ℕ) (t : ReadTrouble) → HasPiece digest_of pool image slot piece → TroubleHolds digest_of pool image slot t → t ≡ trouble.DiskFault
+pub has_undamaged : (digest_of : List ℕ → List ℕ) (pool : PoolState) (image : Image) (slot : ℕ) (piece : List ℕ) (t : ReadTrouble) → HasPiece digest_of pool image slot piece → TroubleHolds digest_of pool image slot t → t ≡ trouble.DiskFault
 has_undamaged digest_of pool image slot piece trouble.DiskFault has holds = refl
 has_undamaged digest_of pool image slot piece (trouble.Damaged recorded found) has damage =
     let same : has.what ≡ damage.what = cc (has.is_held, damage.is_held) in

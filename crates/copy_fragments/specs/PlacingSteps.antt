@@ -2,7 +2,9 @@
 use Rattle.std.specs.Prelude.{◌≡◌, ◌⊎◌, ℕ, ◌+◌, ◌-◌, ◌*◌, ◌≤◌, List, length, take, Some, slice_get}
 use Rattle.vault_disk.specs.Disk.{Disk}
 use Rattle.segment_pool.specs.Placing.{HasPiece, IsTruePool, KeepsPieces, Touches}
-use Rattle.segment_pool.specs.Slots.{IsPinnedAtMost, PoolState, held, number_held, room_beside, while_held}
+use Rattle.segment_pool.specs.Slots.{PoolState, held, number_held, room_beside, while_held}
+use Rattle.segment_pool.specs.declared.fault.PoolFault.{PoolFault}
+use Rattle.segment_pool.specs.declared.fault.PoolFault.TheVariants as fault
 use Rattle.segment_pool.specs.declared.slot.Slot.{Slot}
 use Rattle.copy_fragments.specs.Placings.{PinnedEach, held_pieces, lacking, times}
 
@@ -19,11 +21,17 @@ pub record UnpinnedEach (old new : PoolState) (slots : List ℕ) : Type 0 where
   pub others : (slot : ℕ) → times slot slots ≡ 0 → held new slot ≡ held old slot
   pub beside : (n : ℕ) → room_beside old n ≤ room_beside new n
 
+-- where bytes are damaged, the digest that is recorded of them is that of one of these pieces
+abbrev pub IsDamageOf : (List ℕ → List ℕ) → List (List ℕ) → PoolFault → Type 0
+IsDamageOf digest_of all fault.NoMemory = Unit {0}
+IsDamageOf digest_of all fault.DiskFault = Unit {0}
+IsDamageOf digest_of all (fault.Damaged recorded found) = (index : ℕ) × (piece : List ℕ) × (slice_get all index ≡ Some piece) × (recorded ≡ digest_of piece)
+IsDamageOf digest_of all (fault.Full count) = Unit {0}
+
 -- pieces were placed in these slots
 pub record PlacedSoFar (start now : PoolState) (slots : List ℕ) : Type 0 where
   pub pinned : PinnedEach start now slots
   pub beside : (n : ℕ) → room_beside start n ≤ room_beside now n
-  pub pins : (most : ℕ) → IsPinnedAtMost most start → IsPinnedAtMost (most + length slots) now
   pub no_fewer : number_held start ≤ number_held now
   pub no_more : number_held now ≤ number_held start + length slots
   pub fits : (number_held now ≡ number_held start) ⊎ (number_held now ≤ start.slots)

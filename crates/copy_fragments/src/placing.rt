@@ -7,7 +7,7 @@ ghost use Rattle.segment_pool.specs.Faults.{IsDamage, IsDiskFault};
 ghost use Rattle.segment_pool.specs.Slots.{AreSound, IsAsBefore, IsPinnedAtMost, PoolState, number_held, spare};
 ghost use Rattle.copy_fragments.specs.Copies.{IsPlaced};
 ghost use Rattle.copy_fragments.specs.Placings.{HoldsMore, PinnedEach, PlacingFails, PlacingTold, copy_in, new_pieces};
-ghost use Rattle.copy_fragments.specs.PlacingSteps.{ArePinned, HasPieces, PlacedSoFar, StaysTrue, UnpinnedEach};
+ghost use Rattle.copy_fragments.specs.PlacingSteps.{ArePinned, HasPieces, IsDamageOf, PlacedSoFar, StaysTrue, UnpinnedEach};
 
 use crate::copy_map::piece_count;
 use segment_pool::{Cut, Fingerprint, NoMemory, Pool, PoolFault};
@@ -35,6 +35,7 @@ pub fn place<V: Vault, F: Fingerprint>(
     ensures refused { OnErr result (IsAsBefore pool.old pool.new × (slots.new.items ≡ slots.old.items)) }
     ensures cause { IfErr result (λ fault. ¬ IsDamage fault → PlacingFails pool.old (V.disk vault.old).faults (V.disk vault.new).faults fault) }
     ensures cause_told { (V.disk vault.old).tells → IfErr result (PlacingFails pool.old (V.disk vault.old).faults (V.disk vault.new).faults) }
+    ensures damaged { IfErr result (IsDamageOf F.digest_of (pieces cut.now.size cut.now.bytes)) }
     ensures memory { IfErr result (λ fault. fault ≡ PoolFault.NoMemory → vault.new ≡ vault.old) }
     ensures told { (V.disk vault.old).tells → IsTruePool F.digest_of pool.old (V.disk vault.old).seen → IfErr result (PlacingTold F.digest_of pool.old (V.disk vault.old).seen cut.now.bytes) }
     ensures undamaged { (V.disk vault.old).tells → IsTruePool F.digest_of pool.old (V.disk vault.old).seen → IfErr result (λ fault. ¬ IsDamage fault) }
@@ -69,13 +70,23 @@ fn take_memory<F: Fingerprint>(
     ensures sound { OnOk result (AreSound pool.new.size pool.new.table) }
     ensures some { OnOk result (1 ≤ cut.now.size) }
 {
-    let count = piece_count(cut.bytes().len() as u64, cut.size());
-    let Ok(pieces) = u32::try_from(count) else {
-        return Err(AllocError);
-    };
+    let pieces = count_pieces(cut)?;
+    let placed = Vec::with_capacity(alloc, pieces as usize)?;
     slots.reserve(pieces as usize)?;
     pool.reserve(alloc, pieces)?;
-    Vec::with_capacity(alloc, pieces as usize)
+    Ok(placed)
+}
+
+// How many pieces the bytes have. So many that their slots have no number can't stand in memory.
+fn count_pieces<F: Fingerprint>(cut: &Cut<'_, F>) -> Result<u32, NoMemory>
+    ensures count { IfOk result (λ count. count ≡ length (pieces cut.now.size cut.now.bytes)) }
+    ensures some { 1 ≤ cut.now.size }
+{
+    let count = piece_count(cut.bytes().len() as u64, cut.size());
+    let Ok(count) = u32::try_from(count) else {
+        return Err(AllocError);
+    };
+    Ok(count)
 }
 
 // Places each piece of the bytes in turn, until one is refused. The slots are added to the list, which has room for them.
@@ -98,6 +109,7 @@ fn place_each<V: Vault, F: Fingerprint>(
     ensures stays_true { (V.disk vault.old).tells → (start : PoolState) → IsAsBefore start pool.old → IsTruePool F.digest_of start (V.disk vault.old).seen → OnOk result (StaysTrue F.digest_of start pool.new (V.disk vault.old) (V.disk vault.new) (pieces cut.now.size cut.now.bytes) placed.new.items) }
     ensures cause { (start : PoolState) → IsAsBefore start pool.old → IfErr result (λ fault. ¬ IsDamage fault → PlacingFails start (V.disk vault.old).faults (V.disk vault.new).faults fault) }
     ensures cause_told { (V.disk vault.old).tells → (start : PoolState) → IsAsBefore start pool.old → IfErr result (PlacingFails start (V.disk vault.old).faults (V.disk vault.new).faults) }
+    ensures damaged { IfErr result (IsDamageOf F.digest_of (pieces cut.now.size cut.now.bytes)) }
     ensures memory { IfErr result (λ fault. fault ≢ PoolFault.NoMemory) }
     ensures told { (V.disk vault.old).tells → (start : PoolState) → IsAsBefore start pool.old → IsTruePool F.digest_of start (V.disk vault.old).seen → IfErr result (PlacingTold F.digest_of start (V.disk vault.old).seen cut.now.bytes) }
     ensures undamaged { (V.disk vault.old).tells → (start : PoolState) → IsAsBefore start pool.old → IsTruePool F.digest_of start (V.disk vault.old).seen → IfErr result (λ fault. ¬ IsDamage fault) }

@@ -1,0 +1,15 @@
+use Rattle.std.proofs.Common.{◌≡◌, ℕ, ◌≤◌, List, length, subst, arith}
+use Rattle.copy_fragments.specs.Copies.{IsPieceCount}
+use Rattle.copy_fragments.proofs.Kept.{counted_pieces}
+use Rattle.copy_fragments.proofs.placing.count_pieces.Goals as goal
+
+pub returns-clause-count : goal.returns-clause-count
+returns-clause-count g c =
+    let cut = c.args.cut.now in
+    let some : 1 ≤ c.args.cut.now.size = omega (arith, c.size.ensures.is, c.size.ensures.some) in
+    omega (
+      arith,
+      c.in-Ok.ensures,
+      counted_pieces cut.size c.piece_count-count.result cut.bytes some (subst (λ (k : ℕ). IsPieceCount c.piece_count-count.result k (length c.args.cut.now.bytes)) c.size.ensures.is
+          (subst (λ (l : List ℕ). IsPieceCount c.piece_count-count.result c.size.result (length l)) c.bytes.ensures c.piece_count-count.ensures)),
+    )
