@@ -1,5 +1,5 @@
 // The copies of images.
-ghost use Rattle.std.specs.Prelude.{◌≡◌, None, Some, is_some, true, OnOk, OnErr};
+ghost use Rattle.std.specs.Prelude.{◌≡◌, None, Some, OnOk, OnErr};
 ghost use Rattle.std.specs.Option.{option_copied};
 ghost use Rattle.site_types.specs.declared.id.BackupId.{BackupId as Id};
 ghost use Rattle.vault_ledger.specs.Copies.{copy_of, Sets};
@@ -50,16 +50,6 @@ impl Copies {
     {
         self.copies.insert(id, copy)?;
         Ok(())
-    }
-
-    /// Puts another copy in the place of the one of an image. It takes no memory.
-    pub fn replace(&mut self, id: &BackupId, copy: CopyMap)
-        requires { is_some (copy_of id.now self.old) ≡ true }
-        ensures { Sets id.now (Some copy) self.old self.new }
-    {
-        if let Some(place) = self.copies.get_mut(id) {
-            *place = copy;
-        }
     }
 
     /// Takes the copy of an image out.
