@@ -1,8 +1,8 @@
 -- What a backup seals.
 use Rattle.desk_rules.proofs.Common.{◌≡◌, ◌≤◌, ◌+◌, ◌∙◌, ◌⊎◌, ℕ, Bool, true, false, if◌then◌else◌, cond, List, [], ◌∷◌, ◌++◌, length, map, flat_map, Option, Some, None, Err, refl, sym, ap, arith, inl, inr, unwrap_or, nat_le, is_some, option_map, Answer, ImageRecord, Policy, adhoc, State, Site, Asked, backup_refusals, base_of, policy_asked, reference_of, schedule_asked, first_refusal, IsStateOf, JobBody, backup_body, Passes, Refusal, Answered, manual}
 use Rattle.std.proofs.lemmas.List.{length-append}
-use Rattle.std.specs.Prelude.{nat_lt}
-use Rattle.site_types.specs.declared.answer.Answer.TheVariants.{BadStream, OutOfMemory, UnitFull}
+use Rattle.std.specs.Prelude.{codes, nat_lt}
+use Rattle.site_types.specs.declared.answer.Answer.TheVariants.{BadStream, OutOfMemory, TooMany, UnitFull}
 use Rattle.site_types.specs.declared.unit.Unit.{Unit as StorageUnit}
 use Rattle.site_types.specs.declared.image.Base.{Base}
 use Rattle.policy_book.specs.Book.{policy_name}
@@ -14,6 +14,7 @@ use Rattle.image_kinds.specs.Streams.{spelled_content, spelled_image, spelled_it
 use Rattle.std.specs.Int.{to_be_bytes, w64}
 use Rattle.image_catalogue.specs.Images.{used}
 use Rattle.desk_model.specs.Backups.{backup_shown, backup_unit, content_refusals, image_asked, sealed_bytes, stream_break, unit_at}
+use Rattle.desk_model.specs.Pieces.{piece_count, piece_limit}
 use Rattle.desk_model.proofs.NamedLemmas.{found_named}
 use Rattle.desk_model.proofs.Passing.{all_passed, there_is}
 use Rattle.desk_rules.specs.Contents.{base_in, base_time, policy_in, policy_of, shown_under}
@@ -56,19 +57,22 @@ shown_with payload policy bytes here images =
 abbrev pub break_refusals : Policy → List ℕ → List (Bool × Answer)
 break_refusals policy payload = (is_some (stream_break policy payload), BadStream (unwrap_or (stream_break policy payload) 0)) ∷ []
 
-abbrev pub space_refusals : StorageUnit → ℕ → ℕ → List (Bool × Answer)
-space_refusals unit held size = (nat_lt unit.capacity (held + size), UnitFull unit.name held size unit.capacity) ∷ []
+abbrev pub copy_refusals : StorageUnit → ℕ → ℕ → List (Bool × Answer)
+copy_refusals unit held size =
+    (nat_lt piece_limit (piece_count unit.segment size), TooMany (codes "pieces") (piece_count unit.segment size) piece_limit)
+    ∷ (nat_lt unit.capacity (held + size), UnitFull unit.name held size unit.capacity)
+    ∷ []
 
 pub shown_parts : (site : Site) (records : List ImageRecord) (name payload : List ℕ) (base : Base) (policy : Policy) (unit : StorageUnit) (held : ℕ) (bytes : List ℕ)
     → Some policy ≡ named policy_name name site.book.policies
     → unit ≡ unit_at (backup_unit policy site.book) site.book
     → held ≡ used unit.name records
     → bytes ≡ sealed_bytes policy (base_time base) payload
-    → shown_under (policy_of name site.book) base payload site records ≡ break_refusals policy payload ++ space_refusals unit held (length bytes)
+    → shown_under (policy_of name site.book) base payload site records ≡ break_refusals policy payload ++ copy_refusals unit held (length bytes)
 shown_parts site records name payload base policy unit held bytes found unit_is held_is bytes_are =
     ap (λ (o : Option Policy). shown_under (unwrap_or o adhoc) base payload site records) (sym found)
-    ∙ (λ j. break_refusals policy payload ++ space_refusals (sym unit_is j) (used (sym unit_is j).name records) (length (sym bytes_are j)))
-    ∙ ap (λ (n : ℕ). break_refusals policy payload ++ space_refusals unit n (length bytes)) (sym held_is)
+    ∙ (λ j. break_refusals policy payload ++ copy_refusals (sym unit_is j) (used (sym unit_is j).name records) (length (sym bytes_are j)))
+    ∙ ap (λ (n : ℕ). break_refusals policy payload ++ copy_refusals unit n (length bytes)) (sym held_is)
 
 -- what its payload shows under the policy and with the base of its body
 module _ (site : Site) (records : List ImageRecord) (body : JobBody) (payload : List ℕ) (s : State) (asked : Asked) (size moment : ℕ) (state : IsStateOf site records s) (none : first_refusal (backup_refusals asked moment s) ≡ None) (body_is : body ≡ backup_body asked size moment s) where

@@ -22,6 +22,9 @@ use site_types::{Answer, Copied, Kind, LAST_MOMENT, Name, Schedule, Start, Text,
 use slp_tree::Slp;
 use std::alloc::Global;
 
+// The length in bytes of the segments of the unit of a new vault.
+const FIRST_SEGMENT: u32 = 131_072;
+
 // The schedule under which the backup is made.
 pub(crate) fn check_room<'a>(
     alloc: Global,
@@ -136,10 +139,36 @@ fn check_window(
 pub(crate) fn unit_of(alloc: Global, book: &Book, policy: &Policy) -> Result<Unit, NoMemory>
     ensures { IfOk result (λ u. u ≡ unit_at (backup_unit policy.now book.now) book.now) }
 {
-    match unit_named(unit_name(book, policy.lifecycle()), book.units()) {
+    match backup_unit(book, policy) {
         Some(unit) => unit.copy(alloc),
         None => first_unit(alloc),
     }
+}
+
+// That unit, where it is in the book.
+fn backup_unit<'a>(book: &'a Book, policy: &Policy) -> Option<&'a Unit>
+    ensures { option_copied result ≡ named unit_name (backup_unit policy.now book.now) book.now.units }
+{
+    let lifecycle = policy.lifecycle();
+    unit_under(book, lifecycle, latest_version(book, lifecycle))
+}
+
+/// The length in bytes of the segments of the unit to which backups go under this version of a lifecycle; where that isn't there,
+/// of those of the unit of a new vault.
+pub fn segment_of(book: &Book, lifecycle: &Name, version: u16) -> u32
+    ensures { result ≡ (unit_at (unit_of (operations_in lifecycle.now version book.now)) book.now).segment }
+{
+    match unit_under(book, lifecycle, version) {
+        Some(unit) => unit.segment,
+        None => FIRST_SEGMENT,
+    }
+}
+
+// The unit of the first operation of a version of a lifecycle.
+fn unit_under<'a>(book: &'a Book, lifecycle: &Name, version: u16) -> Option<&'a Unit>
+    ensures { option_copied result ≡ named unit_name (unit_of (operations_in lifecycle.now version book.now)) book.now.units }
+{
+    unit_named(unit_name(book, lifecycle, version), book.units())
 }
 
 fn unit_named<'a>(name: &[u8], units: &'a [Unit]) -> Option<&'a Unit>
@@ -148,11 +177,10 @@ fn unit_named<'a>(name: &[u8], units: &'a [Unit]) -> Option<&'a Unit>
     units.iter().find(|unit| unit.name.bytes() == name)
 }
 
-// The unit of the first operation of a lifecycle's latest version.
-fn unit_name<'a>(book: &'a Book, lifecycle: &Name) -> &'a [u8]
-    ensures { result.now ≡ unit_of (operations_in lifecycle.now (latest_version lifecycle.now book.now) book.now) }
+// The name of the unit of the first operation of a version of a lifecycle.
+fn unit_name<'a>(book: &'a Book, lifecycle: &Name, version: u16) -> &'a [u8]
+    ensures { result.now ≡ unit_of (operations_in lifecycle.now version book.now) }
 {
-    let version = latest_version(book, lifecycle);
     match book.lifecycles().find(lifecycle, version) {
         Some(slp) => first_unit_of(slp),
         None => b"",

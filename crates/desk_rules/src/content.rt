@@ -1,5 +1,5 @@
 // What a backup seals, which only its payload's bytes show.
-ghost use Rattle.std.specs.Prelude.{◌≡◌, ◌≤◌, ◌+◌, ℕ, List, [], ◌∷◌, None, Ok, true, length, IfOk, is_some, nat_lt, unwrap_or};
+ghost use Rattle.std.specs.Prelude.{◌≡◌, ◌≤◌, ◌+◌, ℕ, List, [], ◌∷◌, None, Ok, true, length, IfOk, is_some, nat_lt, codes, unwrap_or};
 ghost use Rattle.std.specs.Result.{result_err};
 ghost use Rattle.site_types.specs.declared.answer.Answer.TheVariants as answer;
 ghost use Rattle.policy_book.specs.Book.{policy_name};
@@ -7,6 +7,7 @@ ghost use Rattle.policy_book.specs.Lists.{has};
 ghost use Rattle.image_kinds.specs.Reading.{stream_in};
 ghost use Rattle.image_kinds.specs.Streams.{spelled_stream};
 ghost use Rattle.desk_model.specs.Backups.{Asked, backup_refusals, backup_shown, image_asked, sealed_bytes, stream_break};
+ghost use Rattle.desk_model.specs.Pieces.{piece_count, piece_limit};
 ghost use Rattle.desk_model.specs.Refusals.{first_refusal};
 ghost use Rattle.desk_model.specs.State.{State};
 ghost use Rattle.desk_rules.specs.Contents.{IsShown, base_time, content_bytes, policy_in, policy_of, shown_under};
@@ -14,6 +15,7 @@ ghost use Rattle.desk_rules.specs.Decisions.{IsStateOf, backup_body};
 ghost use Rattle.desk_rules.specs.Refusing.{Passes};
 
 use crate::backup_room::unit_of;
+use crate::pieces::check_pieces;
 use crate::refusal::Refusal;
 use crate::{JobBody, NoMemory};
 use desk_model::Site;
@@ -43,8 +45,8 @@ impl Content<'_> {
     }
 }
 
-/// What a backup seals that the rules allow, or why its payload is refused: under a policy of files it is no stream, or there is no
-/// room on the unit for what is sealed. The body is that of the decision, under a policy of the site.
+/// What a backup seals that the rules allow, or why its payload is refused: under a policy of files it is no stream, or what is
+/// sealed has more pieces than a copy may have, or there is no room for it on the unit. The body is that of the decision, under a policy of the site.
 pub fn seal_content<'a>(
     alloc: Global,
     site: &Site,
@@ -84,7 +86,7 @@ fn check_content<'a>(
     let content = made_content(alloc, policy, base, payload)?;
     let unit = unit_of(alloc, &site.book, policy)?;
     let size = content.bytes().len() as u64;
-    check_space(alloc, &unit, images.used(&unit.name), size)?;
+    check_copy(alloc, &unit, images.used(&unit.name), size)?;
     Ok(content)
 }
 
@@ -125,6 +127,14 @@ fn base_time(base: Base) -> Option<u64>
         Base::None => None,
         Base::Time(time) => Some(time),
     }
+}
+
+// A copy of so many bytes may stand on the unit, on which so many are held.
+fn check_copy(alloc: Global, unit: &Unit, held: u64, length: u64) -> Result<(), Refusal>
+    ensures { Passes ((nat_lt piece_limit (piece_count unit.now.segment length), answer.TooMany (codes "pieces") (piece_count unit.now.segment length) piece_limit) ∷ (nat_lt unit.now.capacity (held + length), answer.UnitFull unit.now.name held length unit.now.capacity) ∷ []) result }
+{
+    check_pieces(alloc, unit, length)?;
+    check_space(alloc, unit, held, length)
 }
 
 fn check_space(alloc: Global, unit: &Unit, held: u64, length: u64) -> Result<(), Refusal>

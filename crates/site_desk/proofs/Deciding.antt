@@ -15,6 +15,7 @@ use Rattle.site_types.specs.declared.request.Request.{Request}
 use Rattle.policy_book.specs.declared.fault.BookFault.{BookFault}
 use Rattle.policy_book.specs.Requests.{refusals_of}
 use Rattle.desk_model.specs.State.{State, Image, Stored, entries}
+use Rattle.desk_model.specs.Backups.{Asked, backup_shown}
 use Rattle.desk_model.specs.Refusals.{Case, first_refusal, unless_refused, step_of}
 use Rattle.desk_model.specs.Settings.{Removal, gone_client, gone_policy, refusal_answer, removal_of, setting_refusals, use_refusals, uses_of}
 use Rattle.desk_model.specs.Step.{case_of, step}
@@ -28,7 +29,7 @@ use Rattle.site_desk.specs.Steps.{IsRefused, IsStepRefusal}
 use Rattle.site_desk.specs.declared.index.Index.{Index}
 use Rattle.site_desk.proofs.Refusing.{refused_as, ArePlain, first_plain, sized_seen}
 
--- What a step refuses but by the bytes of a payload.
+-- What a step refuses.
 
 -- a limit of something else than bytes
 limited : (kind : List ℕ) (count limit : ℕ) → (kind ≢ codes "bytes") → IsStepRefusal (answer.TooMany kind count limit)
@@ -86,6 +87,10 @@ plain_case s (backup client policy schedule start) payload moment =
     ((λ _. limited (codes "images") _ _ (λ same. cc same)), ((λ _. (tt, tt)), ((λ _. (tt, tt)), ((λ _. limited (codes "clients") _ _ (λ same. omega (arith, ap length same))), ((λ _. (tt, tt)), ((λ _. (tt, tt)), ((λ _. (tt, tt)), ((λ _. (tt, tt)), ((λ _. (tt, tt)), ((λ _. limited (codes "time") _ _ (λ same. cc same)), tt))))))))))
 plain_case s (restore id copy) payload moment = ((λ _. (tt, tt)), ((λ _. (tt, tt)), (too_long _, tt)))
 plain_case s (restore_at client policy before) payload moment = ((λ _. (tt, tt)), ((λ _. (tt, tt)), ((λ _. (tt, tt)), ((λ _. (tt, tt)), (too_long _, tt)))))
+
+-- what a backup's bytes show
+pub plain_shown : (asked : Asked) (payload : List ℕ) (moment : ℕ) (s : State) → ArePlain (backup_shown asked payload moment s)
+plain_shown asked payload moment s = ((λ _. (tt, tt)), ((λ _. limited (codes "pieces") _ _ (λ same. omega (arith, ap length same))), ((λ _. (tt, tt)), tt)))
 
 -- A decision on a request of this class.
 module _ (s : State) (request : Request) (class : RequestClass) (payload : List ℕ) (moment : ℕ) (d : Decision) (class_is : class_of request ≡ class) (decided : IsDecision s request payload moment d) where

@@ -44,7 +44,7 @@ use Rattle.site_desk.proofs.IndexLemmas.{remembers_more}
 use Rattle.site_desk.proofs.Refusing.{first_plain, refused_as, sized_seen}
 use Rattle.site_desk.proofs.SoundImages.{backup_applies, fits_by, taken}
 use Rattle.site_desk.proofs.SoundIndex.{fits_same}
-use Rattle.site_desk.proofs.Deciding.{Decided, decided_on, decided_seen, refused_so, some_so, none_so, passed_so, step_so}
+use Rattle.site_desk.proofs.Deciding.{Decided, decided_on, decided_seen, plain_shown, refused_so, some_so, none_so, passed_so, step_so}
 
 -- the index once an image was taken in whose bytes stand there
 abbrev pub Takes : WholeImage → Extent → Index → Index → Type 0
@@ -152,7 +152,7 @@ module _ (index : Index) (request : Request) (payload : List ℕ) (size moment :
     shown_on a shows s state here = elim (shows s asked (length payload) moment state (passed_on s here) (body_on s here)) [
       | inl lacks ↦ subst (λ (x : Answer). IsStepRefusal x × IsRefused s request payload moment x) (sym lacks) ((tt, tt), (tt, refl))
       | inr first ↦
-          let plain : IsStepRefusal a = first_plain (backup_shown asked payload moment s) a ((λ _. (tt, tt)), ((λ _. (tt, tt)), tt)) first in
+          let plain : IsStepRefusal a = first_plain (backup_shown asked payload moment s) a (plain_shown asked payload moment s) first in
           (plain, refused_as s request payload moment a plain.1 (step_so s request class payload moment d asks.is here (passed_on s here) ∙ ap (λ (o : Option Answer). unless_refused s o (backup_done asked payload moment s)) first))
     ]
 
@@ -169,24 +169,25 @@ module _ (index : Index) (request : Request) (payload : List ℕ) (size moment :
     Makes bytes = (s : State) (a : Asked) (size moment : ℕ) → IsStateOf index.site index.catalogue s → first_refusal (backup_refusals a moment s) ≡ None → body ≡ backup_body a size moment s → bytes ≡ (image_asked a payload moment s).bytes
 
     -- it is of an image that an opening takes, since the index is of a sound state
-    pub fits_here : (bytes : List ℕ) → Makes bytes → moment ≤ last_moment → FitsIndex index (whole_of body (length bytes) moment)
-    fits_here bytes makes early images stored listed = ∥∥₁_elim index.sound (Bool-set _ true) here_too
+    pub fits_here : (content : Content) → Shows (Ok content) → (bytes : List ℕ) → Makes bytes → moment ≤ last_moment → FitsIndex index (whole_of body (length bytes) moment)
+    fits_here content shows bytes makes early images stored listed = ∥∥₁_elim index.sound (Bool-set _ true) here_too
       where
         here_too : SoundState index.site index.catalogue → image_fits (built index.site images stored) (whole_of body (length bytes) moment) ≡ true
         here_too there =
             let s : State = built index.site there.images there.stored in
             let sized = λ (i : Image) (among : Contains there.images i). (there.sound.images i among).size in
             let here : IsDecision s request payload moment d = decided_on index request payload size moment d size_is decided there.images there.stored there.listed sized in
-            let bytes_are : bytes ≡ (image_asked asked payload moment s).bytes = makes s asked (length payload) moment (state_here there.images there.stored there.listed sized) (passed_on s here) (body_on s here) in
+            let state = state_here there.images there.stored there.listed sized in
+            let bytes_are : bytes ≡ (image_asked asked payload moment s).bytes = makes s asked (length payload) moment state (passed_on s here) (body_on s here) in
             fits_same index.site images there.images stored there.stored (whole_of body (length bytes) moment) (listed ∙ sym there.listed)
             ∙ (λ i. image_fits s (whole_of (body_on s here i) (length (bytes_are i)) moment))
-            ∙ taken s there.sound asked payload (length payload) moment early (passed_on s here)
+            ∙ taken s there.sound asked payload (length payload) moment early (passed_on s here) (shows s asked (length payload) moment state (passed_on s here) (body_on s here))
 
     -- so its base, where it has one, is from 1 on
-    pub base_here : (bytes : List ℕ) → Makes bytes → moment ≤ last_moment → (whole_of body (length bytes) moment).base ≢ base.Time 0
-    base_here bytes makes early zero_is =
-        let fits = fits_here bytes makes early (map blank index.catalogue) [] (entries_seen index.catalogue) in
-        no_zero (whole_of body (length bytes) moment) zero_is (fits_by start (whole_of body (length bytes) moment) 0 fits).base
+    pub base_here : (content : Content) → Shows (Ok content) → (bytes : List ℕ) → Makes bytes → moment ≤ last_moment → (whole_of body (length bytes) moment).base ≢ base.Time 0
+    base_here content shows bytes makes early zero_is =
+        let fits = fits_here content shows bytes makes early (map blank index.catalogue) [] (entries_seen index.catalogue) in
+        no_zero (whole_of body (length bytes) moment) zero_is (fits_by start (whole_of body (length bytes) moment) fits).base
       where
         no_zero : (w : WholeImage) → w.base ≡ base.Time 0 → IsBase w.base w.id.time → ⊥
         no_zero w is kept = let low : (1 ≤ 0) × (0 < w.id.time) = subst (λ (b : Base). IsBase b w.id.time) is kept in absurd (omega (arith, low.0))
@@ -203,7 +204,7 @@ module _ (index : Index) (request : Request) (payload : List ℕ) (size moment :
         let row_is : record { entry = entry.WholeImage image; bytes = bytes } ≡ record { entry = entry.WholeImage (whole_of (backup_body asked (length payload) moment s) (length (image_asked asked payload moment s).bytes) moment); bytes = (image_asked asked payload moment s).bytes } =
         (λ i. record { entry = entry.WholeImage (image_is i); bytes = bytes }) ∙ (λ i. record { entry = entry.WholeImage (whole_of (body_on s here i) (length (bytes_are i)) moment); bytes = bytes_are i }) in
         let made : Some (built new.site taken.images taken.stored) ≡ Some (backup_done asked payload moment s).1 =
-        sym taken.applies ∙ ap (apply s) row_is ∙ backup_applies s sound asked payload (length payload) moment early none in
+        sym taken.applies ∙ ap (apply s) row_is ∙ backup_applies s sound asked payload (length payload) moment early none none_shown in
         let state_is : (backup_done asked payload moment s).1 ≡ built new.site taken.images taken.stored = cc (sym made) in
         let answer_is : (backup_done asked payload moment s).0 ≡ Done line = sym (answer_on s here) ∙ line_is in
         record {

@@ -20,8 +20,9 @@ use Rattle.slp_tree.specs.Lifecycles.{version_named}
 use Rattle.policy_book.specs.Lists.{has}
 use Rattle.policy_book.specs.Book.{policy_name, client_limit}
 use Rattle.desk_model.specs.State.{State, Image, initial, has_image}
+use Rattle.desk_model.specs.Pieces.{piece_limit}
 use Rattle.desk_model.specs.Refusals.{first_refusal}
-use Rattle.desk_model.specs.Backups.{Asked, image_limit, takes_all, is_known, sealed_entry, sealed, backup_refusals, backup_done, image_asked}
+use Rattle.desk_model.specs.Backups.{Asked, image_limit, takes_all, is_known, sealed, backup_refusals, backup_shown, backup_done, image_asked}
 use Rattle.desk_model.specs.Settings.{is_setting, setting_refusals, set_by}
 use Rattle.desk_model.specs.Sound.{Sound, IsBase, KeepsCopies}
 use Rattle.desk_model.proofs.Asking.{line_asks}
@@ -29,7 +30,7 @@ use Rattle.desk_model.proofs.Restores.{keeps_copies}
 use Rattle.desk_model.proofs.SealSound.{Fits, seal_sound}
 use Rattle.desk_model.proofs.SoundSteps.{sound_initial, set_sound, backup_fits}
 use Rattle.desk_rules.specs.Decisions.{backup_body}
-use Rattle.site_desk.specs.Stands.{image_fits, is_base_below, client_fits, whole_image, whole_unit, is_settled, settled_as, settled_by, settled, apply, apply_entry, applied_from, applied, unless_before, stood, opened, stands}
+use Rattle.site_desk.specs.Stands.{image_fits, is_base_below, client_fits, whole_entry, whole_image, whole_pieces, whole_unit, is_settled, settled_as, settled_by, settled, apply, apply_entry, applied_from, applied, unless_before, stood, opened, stands}
 use Rattle.site_desk.specs.Replays.{IsRead, AreRead}
 use Rattle.site_desk.specs.Desk.{whole_of}
 use Rattle.site_desk.proofs.SizedRecords.{found_in, reading_sized}
@@ -77,9 +78,10 @@ room_for false true count fits unknown = (refl, grind (arith, nat_tests, fits))
 room_for false false count fits unknown = absurd (false≢true fits)
 
 -- an image that an opening takes is one that fits
-pub fits_by : (s : State) (w : WholeImage) (size : ℕ) → image_fits s w ≡ true → Fits s (sealed_entry s.site.book w.id w.policy w.schedule w.kind w.base w.lifecycle w.version w.completed size) w.completed
-fits_by s w size fits =
-    let h = and_parts _ (nat_le w.completed last_moment) fits in
+pub fits_by : (s : State) (w : WholeImage) → image_fits s w ≡ true → Fits s (whole_entry s.site.book w) w.completed
+fits_by s w fits =
+    let k = and_parts _ (nat_le (whole_pieces s w) piece_limit) fits in
+    let h = and_parts _ (nat_le w.completed last_moment) k.0 in
     let g = and_parts _ (is_base_below w.base w.id.time) h.0 in
     let f = and_parts _ (nat_le w.id.time last_moment) g.0 in
     let e = and_parts _ (nat_le 1 w.id.time) f.0 in
@@ -91,6 +93,7 @@ fits_by s w size fits =
     let from : nat_le 1 w.id.time ≡ true = e.1 in
     let to : nat_le w.id.time last_moment ≡ true = f.1 in
     let late : nat_le w.completed last_moment ≡ true = h.1 in
+    let few : nat_le (whole_pieces s w) piece_limit ≡ true = k.1 in
     record {
       room = grind (arith, nat_tests, room);
       fresh = not-true (has_image w.id s.images) a.1;
@@ -100,7 +103,15 @@ fits_by s w size fits =
       time = (grind (arith, nat_tests, from), grind (arith, nat_tests, to));
       base = is_base w.base w.id.time g.1;
       completed = grind (arith, nat_tests, late);
+      few = grind (arith, nat_tests, few);
     }
+
+-- and it leaves a state sound, with bytes of its length
+pub whole_sound : (s : State) → Sound s → (w : WholeImage) (bytes : List ℕ) → w.length ≡ length bytes → image_fits s w ≡ true → Sound (sealed (whole_image s w bytes) (whole_unit s w) s)
+whole_sound s sound w bytes long fits =
+    subst (λ (n : ℕ). Sound (sealed (whole_image s (record w { length = n }) bytes) (whole_unit s w) s)) (sym long)
+    (seal_sound s sound w.id w.policy w.schedule w.kind w.base w.lifecycle w.version w.completed bytes
+    (subst (λ (n : ℕ). Fits s (whole_entry s.site.book (record w { length = n })) w.completed) long (fits_by s w fits)))
 
 -- Records.
 
@@ -111,9 +122,7 @@ entry_sound s (entry.CopySealed id copy completed segments) bytes t is_read soun
 entry_sound s (entry.WholeImage w) bytes t is_read sound is =
     let done = guarded (image_fits s w) (Some (sealed (whole_image s w bytes) (whole_unit s w) s)) t is in
     let same : sealed (whole_image s w bytes) (whole_unit s w) s ≡ t = cc done.1 in
-    subst Sound same
-    (subst (λ (n : ℕ). Sound (sealed (record { entry = sealed_entry s.site.book w.id w.policy w.schedule w.kind w.base w.lifecycle w.version w.completed n; bytes = bytes }) (whole_unit s w) s)) (sym is_read)
-    (seal_sound s sound w.id w.policy w.schedule w.kind w.base w.lifecycle w.version w.completed bytes (fits_by s w (length bytes) done.0)))
+    subst Sound same (whole_sound s sound w bytes is_read done.0)
 
 applied_sound : (fs : List Found) (at : ℕ) (o : Option State) (t : State) → AreRead fs → ((s : State) → o ≡ Some s → Sound s) → applied_from at o fs ≡ Ok t → Sound t
 applied_sound fs at None t read sound is = absurd (cc is)
@@ -170,9 +179,9 @@ module _ (s : State) (sound : Sound s) (asked : Asked) (payload : List ℕ) (siz
   w = whole_of (backup_body asked size moment s) (length image.bytes) moment
 
   -- it is one that an opening takes
-  pub taken : moment ≤ last_moment → first_refusal (backup_refusals asked moment s) ≡ None → image_fits s w ≡ true
-  taken early none =
-      let fits = backup_fits s sound asked payload moment early none in
+  pub taken : moment ≤ last_moment → first_refusal (backup_refusals asked moment s) ≡ None → first_refusal (backup_shown asked payload moment s) ≡ None → image_fits s w ≡ true
+  taken early none none_shown =
+      let fits = backup_fits s sound asked payload moment early none none_shown in
       let few = fits.room in
       let time = fits.time in
       let room : nat_lt (length s.images) image_limit ≡ true = grind (arith, nat_tests, few) in
@@ -184,8 +193,9 @@ module _ (s : State) (sound : Sound s) (asked : Asked) (payload : List ℕ) (siz
       let version : is_some (version_named w.lifecycle w.version s.site.book.lifecycles) ≡ true = fits.version in
       let client : client_fits s w ≡ true = client_there (is_known w.id.client s.site.book) (takes_all w.policy) (length s.site.book.clients) fits.client in
       let below : is_base_below w.base w.id.time ≡ true = below_base w.base w.id.time fits.base in
-      λ i. room i && fresh i && policy i && version i && client i && from i && to i && below i && completed i
+      let few : nat_le (whole_pieces s w) piece_limit ≡ true = let low = fits.few in grind (arith, nat_tests, low) in
+      λ i. room i && fresh i && policy i && version i && client i && from i && to i && below i && completed i && few i
 
   -- and its record makes the state after it
-  pub backup_applies : moment ≤ last_moment → first_refusal (backup_refusals asked moment s) ≡ None → apply s (record { entry = entry.WholeImage w; bytes = image.bytes }) ≡ Some (backup_done asked payload moment s).1
-  backup_applies early none = λ i. if taken early none i then Some (sealed (whole_image s w image.bytes) (whole_unit s w) s) else None
+  pub backup_applies : moment ≤ last_moment → first_refusal (backup_refusals asked moment s) ≡ None → first_refusal (backup_shown asked payload moment s) ≡ None → apply s (record { entry = entry.WholeImage w; bytes = image.bytes }) ≡ Some (backup_done asked payload moment s).1
+  backup_applies early none none_shown = λ i. if taken early none none_shown i then Some (sealed (whole_image s w image.bytes) (whole_unit s w) s) else None

@@ -16,12 +16,12 @@ use Rattle.image_catalogue.specs.Images.{record_named, with_record}
 use Rattle.desk_model.specs.declared.site.Site.{Site}
 use Rattle.desk_model.specs.Site.{initial_site}
 use Rattle.desk_model.specs.State.{State, initial, Image, Stored, entries, has_image}
-use Rattle.desk_model.specs.Backups.{image_limit, sealed, sealed_entry}
+use Rattle.desk_model.specs.Backups.{image_limit, sealed}
+use Rattle.desk_model.specs.Pieces.{piece_limit}
 use Rattle.desk_model.specs.Settings.{is_setting, stored_after}
 use Rattle.desk_model.specs.Sound.{Sound}
 use Rattle.desk_model.proofs.Asking.{line_asks}
 use Rattle.desk_model.proofs.ImageLists.{entries-with, has_entry}
-use Rattle.desk_model.proofs.SealSound.{seal_sound}
 use Rattle.desk_model.proofs.SoundSteps.{sound_initial, set_sound}
 use Rattle.desk_rules.specs.declared.decision.Change.TheVariants.{Settings}
 use Rattle.desk_rules.specs.declared.decision.Decision.{Decision}
@@ -30,14 +30,14 @@ use Rattle.desk_rules.specs.Decisions.{IsDecision}
 use Rattle.desk_rules.specs.Seen.{blank}
 use Rattle.desk_rules.specs.SiteChanges.{site_made}
 use Rattle.desk_rules.proofs.SeenLemmas.{entries_seen}
-use Rattle.site_desk.specs.Stands.{client_fits, image_fits, is_base_below, whole_entry, whole_image, whole_unit}
+use Rattle.site_desk.specs.Stands.{client_fits, image_fits, is_base_below, whole_entry, whole_image, whole_pieces, whole_unit}
 use Rattle.site_desk.specs.SoundIndex.{SoundState}
 use Rattle.site_desk.specs.Index.{built, FitsIndex}
 use Rattle.site_desk.specs.declared.index.Index.{Index}
 use Rattle.site_desk.proofs.Deciding.{Decided, decided_on}
 use Rattle.site_desk.proofs.ReplayLemmas.{has_room}
 use Rattle.site_desk.proofs.SiteChanges.{change_so, none_of, passes}
-use Rattle.site_desk.proofs.SoundImages.{fits_by}
+use Rattle.site_desk.proofs.SoundImages.{fits_by, whole_sound}
 
 -- the same site and the same records
 pub sound_still : (site site' : Site) (records records' : List ImageRecord) → site' ≡ site → records' ≡ records → ∥ SoundState site records ∥₁ → ∥ SoundState site' records' ∥₁
@@ -77,6 +77,7 @@ fits_same site images images' stored stored' w same =
     && has policy_name w.policy site.book.policies && is_some (version_named w.lifecycle w.version site.book.lifecycles)
     && client_fits (built site images stored) w
     && nat_le 1 w.id.time && nat_le w.id.time last_moment && is_base_below w.base w.id.time && nat_le w.completed last_moment
+    && nat_le (whole_pieces (built site images stored) w) piece_limit
   where
     room : (nat_lt (length images) image_limit && not (has_image w.id images)) ≡ (nat_lt (length images') image_limit && not (has_image w.id images'))
     room = sym (has_room w.id images (entries images) refl) ∙ has_room w.id images' (entries images) (sym same)
@@ -89,10 +90,10 @@ module _ (old : Index) (w : WholeImage) (fits : FitsIndex old w) where
   fits_before = fits (map blank old.catalogue) [] (entries_seen old.catalogue)
 
   pub fresh_by : record_named w.id old.catalogue ≡ None
-  fresh_by = none_of (record_named w.id old.catalogue) (ap (λ (l : List ImageRecord). is_some (record_named w.id l)) (sym (entries_seen old.catalogue)) ∙ has_entry w.id (map blank old.catalogue) ∙ (fits_by before w 0 fits_before).fresh)
+  fresh_by = none_of (record_named w.id old.catalogue) (ap (λ (l : List ImageRecord). is_some (record_named w.id l)) (sym (entries_seen old.catalogue)) ∙ has_entry w.id (map blank old.catalogue) ∙ (fits_by before w fits_before).fresh)
 
   pub version_by : is_some (version_named w.lifecycle w.version old.site.book.lifecycles) ≡ true
-  version_by = (fits_by before w 0 fits_before).version
+  version_by = (fits_by before w fits_before).version
 
   -- it is taken in
   pub sound_with : (taken : ImageRecord) → taken ≡ whole_entry old.site.book w → ∥ SoundState (record (old.site) { book = client_sealed taken.id.client taken.id.time old.site.book }) (with_record taken old.catalogue) ∥₁
@@ -100,9 +101,6 @@ module _ (old : Index) (w : WholeImage) (fits : FitsIndex old w) where
     where
       bytes : List ℕ
       bytes = replicate w.length 0
-
-      long : w.length ≡ length bytes
-      long = sym (length-replicate w.length 0)
 
       after : SoundState old.site old.catalogue → SoundState (record (old.site) { book = client_sealed w.id.client w.id.time old.site.book }) (with_record (whole_entry old.site.book w) old.catalogue)
       after there =
@@ -112,6 +110,5 @@ module _ (old : Index) (w : WholeImage) (fits : FitsIndex old w) where
             images = t.images;
             stored = t.stored;
             listed = entries-with (whole_image s w bytes) there.images ∙ ap (with_record (whole_entry old.site.book w)) there.listed;
-            sound = subst (λ (n : ℕ). Sound (sealed (record { entry = sealed_entry s.site.book w.id w.policy w.schedule w.kind w.base w.lifecycle w.version w.completed n; bytes = bytes }) (whole_unit s w) s)) (sym long)
-                (seal_sound s there.sound w.id w.policy w.schedule w.kind w.base w.lifecycle w.version w.completed bytes (fits_by s w (length bytes) (fits there.images there.stored there.listed)));
+            sound = whole_sound s there.sound w bytes (sym (length-replicate w.length 0)) (fits there.images there.stored there.listed);
           }

@@ -19,8 +19,9 @@ use Rattle.slp_tree.specs.Lifecycles.{version_named}
 use Rattle.policy_book.specs.Lists.{has}
 use Rattle.policy_book.specs.Book.{Book, policy_name, client_limit}
 use Rattle.desk_model.specs.State.{State, Image, initial, durable, has_image}
+use Rattle.desk_model.specs.Pieces.{piece_count, piece_limit}
 use Rattle.desk_model.specs.Refusals.{first_refusal}
-use Rattle.desk_model.specs.Backups.{image_limit, takes_all, is_known, operations_in, unit_of, sealed_entry, sealed}
+use Rattle.desk_model.specs.Backups.{image_limit, takes_all, is_known, operations_in, unit_at, unit_of, sealed_entry, sealed}
 use Rattle.desk_model.specs.Settings.{is_setting, setting_refusals, set_by}
 
 -- a base is a moment from 1 on, and below this one
@@ -32,13 +33,21 @@ is_base_below (base.Time b) time = nat_le 1 b && nat_lt b time
 abbrev pub client_fits : State → WholeImage → Bool
 client_fits s w = is_known w.id.client s.site.book || (takes_all w.policy && nat_lt (length s.site.book.clients) client_limit)
 
--- an image that isn't there and for which there is room, under a policy and a version of a lifecycle that are there; its client is there or may be added; its moments are within their limits
+-- the unit to which it goes, and how many pieces it has there
+abbrev pub whole_unit : State → WholeImage → List ℕ
+whole_unit s w = unit_of (operations_in w.lifecycle w.version s.site.book)
+
+abbrev pub whole_pieces : State → WholeImage → ℕ
+whole_pieces s w = piece_count (unit_at (whole_unit s w) s.site.book).segment w.length
+
+-- an image that isn't there and for which there is room, under a policy and a version of a lifecycle that are there; its client is there or may be added; its moments are within their limits, and so is the number of its pieces
 abbrev pub image_fits : State → WholeImage → Bool
 image_fits s w =
     nat_lt (length s.images) image_limit && not (has_image w.id s.images)
     && has policy_name w.policy s.site.book.policies && is_some (version_named w.lifecycle w.version s.site.book.lifecycles)
     && client_fits s w
     && nat_le 1 w.id.time && nat_le w.id.time last_moment && is_base_below w.base w.id.time && nat_le w.completed last_moment
+    && nat_le (whole_pieces s w) piece_limit
 
 -- what the catalogue has of it
 abbrev pub whole_entry : Book → WholeImage → ImageRecord
@@ -46,9 +55,6 @@ whole_entry book w = sealed_entry book w.id w.policy w.schedule w.kind w.base w.
 
 abbrev pub whole_image : State → WholeImage → List ℕ → Image
 whole_image s w bytes = record { entry = whole_entry s.site.book w; bytes = bytes }
-
-abbrev pub whole_unit : State → WholeImage → List ℕ
-whole_unit s w = unit_of (operations_in w.lifecycle w.version s.site.book)
 
 -- a line is what is written of a request that changes the site, and nothing refuses it
 abbrev pub is_settled : State → List ℕ → Request → Bool

@@ -9,7 +9,8 @@ ghost use Rattle.pool_journal.specs.declared.entry.Entry.TheVariants as entry;
 ghost use Rattle.pool_journal.specs.Records.{Found, placed, placed_of};
 ghost use Rattle.desk_model.specs.Site.{initial_site};
 ghost use Rattle.desk_model.specs.State.{Image, Stored, entries, has_image};
-ghost use Rattle.desk_model.specs.Backups.{image_limit, is_known, takes_all};
+ghost use Rattle.desk_model.specs.Backups.{image_limit, is_known, operations_in, takes_all, unit_at, unit_of};
+ghost use Rattle.desk_model.specs.Pieces.{piece_count, piece_limit};
 ghost use Rattle.site_desk.specs.Stands.{apply, is_base_below, image_fits};
 ghost use Rattle.site_desk.specs.Index.{built, FitsIndex, Remembers, IsReplayed, SameIndex};
 ghost use Rattle.site_desk.specs.Replays.{AreRead, Reaches, IsReached};
@@ -19,7 +20,7 @@ use crate::image::record_of;
 use crate::index::Index;
 use crate::setting::settle_lines;
 use desk_model::Site;
-use desk_rules::{IMAGE_LIMIT, takes_all};
+use desk_rules::{IMAGE_LIMIT, PIECE_LIMIT, piece_count, segment_of, takes_all};
 use image_catalogue::Catalogue;
 use policy_book::{Book, CLIENT_LIMIT};
 use pool_journal::{Entry, Placed, WholeImage};
@@ -76,6 +77,14 @@ fn is_in_time(image: &WholeImage) -> bool
         && image.completed <= LAST_MOMENT
 }
 
+// It has no more pieces on its unit than a copy may have.
+fn has_few_pieces(book: &Book, image: &WholeImage) -> bool
+    ensures { result ≡ nat_le (piece_count (unit_at (unit_of (operations_in image.now.lifecycle image.now.version book.now)) book.now).segment image.now.length) piece_limit }
+{
+    let segment = segment_of(book, &image.lifecycle, image.version);
+    piece_count(segment, image.length) <= PIECE_LIMIT
+}
+
 fn image_fits(index: &Index, image: &WholeImage) -> bool
     ensures { (images : List Image) (stored : List Stored) → entries images ≡ index.now.catalogue → result ≡ image_fits (built index.now.site images stored) image.now }
 {
@@ -83,6 +92,7 @@ fn image_fits(index: &Index, image: &WholeImage) -> bool
         && is_allowed(&index.site.book, image)
         && client_fits(&index.site.book, image)
         && is_in_time(image)
+        && has_few_pieces(&index.site.book, image)
 }
 
 /// Takes in an image that fits, and whose bytes stand there. Without memory all stays as it was.

@@ -34,10 +34,10 @@ pub seal-requires-clause-length : goal.seal-requires-clause-length
 seal-requires-clause-length c = ap (λ (w : WholeImage). w.length) c.whole_of-image.ensures ∙ sized_so c.in-SealNow.body _ c.args.moment
 
 pub seal-requires-clause-base : goal.seal-requires-clause-base
-seal-requires-clause-base c zero_is = base_here c.args.index.now c.args.request.now c.args.payload.now _ c.args.moment c.in-Ok.decision c.requires.backup refl c.in-Ok.ensures.decided c.in-SealNow.body c.in-SealNow.is c.bytes-bytes.result.now (λ s asked size moment state none is. c.bytes-bytes.ensures ∙ c.in-Ok-seal_content.ensures.bytes s asked size moment state none is) c.requires.moment (sym (ap (λ (w : WholeImage). w.base) c.whole_of-image.ensures) ∙ zero_is)
+seal-requires-clause-base c zero_is = base_here c.args.index.now c.args.request.now c.args.payload.now _ c.args.moment c.in-Ok.decision c.requires.backup refl c.in-Ok.ensures.decided c.in-SealNow.body c.in-SealNow.is c.in-Ok-seal_content.content c.in-Ok-seal_content.ensures.shown c.bytes-bytes.result.now (λ s asked size moment state none is. c.bytes-bytes.ensures ∙ c.in-Ok-seal_content.ensures.bytes s asked size moment state none is) c.requires.moment (sym (ap (λ (w : WholeImage). w.base) c.whole_of-image.ensures) ∙ zero_is)
 
 pub seal-requires-clause-fits : goal.seal-requires-clause-fits
-seal-requires-clause-fits c = subst (FitsIndex c.args.index.now) (sym c.whole_of-image.ensures) (fits_here c.args.index.now c.args.request.now c.args.payload.now _ c.args.moment c.in-Ok.decision c.requires.backup refl c.in-Ok.ensures.decided c.in-SealNow.body c.in-SealNow.is c.bytes-bytes.result.now (λ s asked size moment state none is. c.bytes-bytes.ensures ∙ c.in-Ok-seal_content.ensures.bytes s asked size moment state none is) c.requires.moment)
+seal-requires-clause-fits c = subst (FitsIndex c.args.index.now) (sym c.whole_of-image.ensures) (fits_here c.args.index.now c.args.request.now c.args.payload.now _ c.args.moment c.in-Ok.decision c.requires.backup refl c.in-Ok.ensures.decided c.in-SealNow.body c.in-SealNow.is c.in-Ok-seal_content.content c.in-Ok-seal_content.ensures.shown c.bytes-bytes.result.now (λ s asked size moment state none is. c.bytes-bytes.ensures ∙ c.in-Ok-seal_content.ensures.bytes s asked size moment state none is) c.requires.moment)
 
 pub returns-in-Ok-seal-clause-ready : goal.returns-in-Ok-seal-clause-ready
 returns-in-Ok-seal-clause-ready c records images stored remembers sound =
