@@ -23,7 +23,7 @@ use Rattle.desk_model.specs.Settings.{is_setting, setting_refusals, stored_after
 use Rattle.desk_model.specs.Step.{case_of, step}
 use Rattle.desk_rules.specs.Seen.{blank, seen}
 use Rattle.desk_rules.proofs.SeenLemmas.{entries_seen}
-use Rattle.site_desk.specs.Stands.{settled, settled_by, settled_as}
+use Rattle.vault_ledger.specs.Fitting.{settled, settled_by, settled_as}
 use Rattle.site_desk.specs.Extents.{extent_of}
 use Rattle.site_desk.specs.Index.{built, Remembers, IsSet, SameIndex}
 use Rattle.site_desk.specs.Steps.{IsReady, IsRefused, IsStepRefusal}

@@ -31,7 +31,7 @@ use Rattle.desk_rules.specs.declared.decision.Change.TheVariants as change
 use Rattle.desk_rules.specs.declared.decision.Decision.{Decision}
 use Rattle.desk_rules.specs.Seen.{blank, seen}
 use Rattle.desk_rules.proofs.SeenLemmas.{entries_seen}
-use Rattle.site_desk.specs.Stands.{settled, settled_by}
+use Rattle.vault_ledger.specs.Fitting.{settled, settled_by}
 use Rattle.site_desk.specs.Index.{built, Remembers, IsSet}
 use Rattle.site_desk.specs.Steps.{AreListed, AreOfFile, AreRefused, AreSet, IsReady, IsRefusalOf, IsRefused, IsStepRefusal}
 use Rattle.site_desk.specs.declared.index.Index.{Index}

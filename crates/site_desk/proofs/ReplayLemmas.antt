@@ -24,7 +24,8 @@ use Rattle.desk_model.specs.State.{State, initial, Image, Stored, entries, has_i
 use Rattle.desk_model.specs.Refusals.{first_refusal}
 use Rattle.desk_model.specs.Backups.{image_limit, sealed}
 use Rattle.desk_model.specs.Settings.{is_setting, setting_refusals, stored_after, set_by}
-use Rattle.site_desk.specs.Stands.{image_fits, whole_entry, whole_image, whole_unit, settled_as, settled_by, settled, apply_entry, apply, applied_from, applied}
+use Rattle.vault_ledger.specs.Fitting.{image_fits, whole_entry, whole_image, whole_unit, settled_as, settled_by, settled}
+use Rattle.site_desk.specs.Stands.{apply_entry, apply, applied_from, applied}
 use Rattle.site_desk.specs.Extents.{Adds}
 use Rattle.site_desk.specs.Index.{built, Remembers, IsSet, Makes}
 use Rattle.site_desk.specs.Replays.{IsRead, setting_as, setting_of, Reaches, IsReached}

@@ -32,7 +32,8 @@ use Rattle.desk_rules.specs.Decisions.{IsDecision, IsStateOf, backup_body}
 use Rattle.desk_rules.specs.Seen.{blank, seen}
 use Rattle.desk_rules.proofs.ContentLemmas.{policy_known}
 use Rattle.desk_rules.proofs.SeenLemmas.{entries_seen}
-use Rattle.site_desk.specs.Stands.{apply, image_fits}
+use Rattle.vault_ledger.specs.Fitting.{image_fits}
+use Rattle.site_desk.specs.Stands.{apply}
 use Rattle.site_desk.specs.Index.{built, FitsIndex, Remembers}
 use Rattle.site_desk.specs.SoundIndex.{SoundState}
 use Rattle.site_desk.specs.Replays.{Reaches}

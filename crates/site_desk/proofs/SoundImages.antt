@@ -30,88 +30,26 @@ use Rattle.desk_model.proofs.Restores.{keeps_copies}
 use Rattle.desk_model.proofs.SealSound.{Fits, seal_sound}
 use Rattle.desk_model.proofs.SoundSteps.{sound_initial, set_sound, backup_fits}
 use Rattle.desk_rules.specs.Decisions.{backup_body}
-use Rattle.site_desk.specs.Stands.{image_fits, is_base_below, client_fits, whole_entry, whole_image, whole_pieces, whole_unit, is_settled, settled_as, settled_by, settled, apply, apply_entry, applied_from, applied, unless_before, stood, opened, stands}
+use Rattle.vault_ledger.specs.Fitting.{image_fits, is_base_below, client_fits, whole_entry, whole_image, whole_pieces, whole_unit, is_settled, settled_as, settled_by, settled}
+use Rattle.site_desk.specs.Stands.{apply, apply_entry, applied_from, applied, unless_before, stood, opened, stands}
+use Rattle.vault_ledger.proofs.FittingImages.{fits_by, whole_sound}
+use Rattle.vault_ledger.proofs.SettledLines.{line_done}
 use Rattle.site_desk.specs.Replays.{IsRead, AreRead}
 use Rattle.site_desk.specs.Desk.{whole_of}
 use Rattle.site_desk.proofs.SizedRecords.{found_in, reading_sized}
 
 -- Settings.
 
-none_there : {A : Type 0} (o : Option A) → is_none o ≡ true → o ≡ None
-none_there None is = refl
-none_there (Some x) is = absurd (false≢true is)
-
-read_ok : (line : List ℕ) (r : Request) → result_ok (read_line line) ≡ Some r → read_line line ≡ Ok r
-read_ok line r is = at (read_line line) is
-  where
-    at : (o : Result Request ℕ) → result_ok o ≡ Some r → o ≡ Ok r
-    at (Ok x) some = let same : x ≡ r = cc some in ap (λ (y : Request). Ok y) same
-    at (Err index) some = absurd (cc some)
-
 line_sound : (s : State) (line : List ℕ) (t : State) → Sound s → settled_by s line ≡ Some t → Sound t
 line_sound s line t sound is =
-    let request = chained (settled_as s line) (result_ok (read_line line)) t is in
-    let done = guarded (is_settled s line request.0) (Some (set_by request.0 s)) t request.2 in
-    let none = none_there (first_refusal (setting_refusals request.0 s)) (and_parts (is_setting request.0 && bytes_eq (line_of request.0) line) (is_none (first_refusal (setting_refusals request.0 s))) done.0).1 in
-    let same : set_by request.0 s ≡ t = cc done.1 in
-    subst Sound same (set_sound request.0 s sound (line_asks line request.0 (read_ok line request.0 request.1)) none)
+    let done = line_done s line t is in
+    subst Sound done.3 (set_sound done.0 s sound done.1 done.2)
 
 lines_sound : (lines : List (List ℕ)) (s t : State) → Sound s → settled s lines ≡ Some t → Sound t
 lines_sound [] s t sound is = let same : s ≡ t = cc is in subst Sound same sound
 lines_sound (line ∷ lines) s t sound is =
     let first = chained (λ u. settled u lines) (settled_by s line) t is in
     lines_sound lines first.0 t (line_sound s line first.0 sound first.1) first.2
-
--- Images.
-
-is_base : (b : Base) (time : ℕ) → is_base_below b time ≡ true → IsBase b time
-is_base base.None time below = tt
-is_base (base.Time moment) time below =
-    let parts = and_parts (nat_le 1 moment) (nat_lt moment time) below in
-    let from = parts.0 in
-    let to = parts.1 in
-    (grind (arith, nat_tests, from), grind (arith, nat_tests, to))
-
-room_for : (known takes : Bool) (count : ℕ) → (known || (takes && nat_lt count client_limit)) ≡ true → known ≡ false → (takes ≡ true) × (count < client_limit)
-room_for true takes count fits unknown = absurd (false≢true (sym unknown))
-room_for false true count fits unknown = (refl, grind (arith, nat_tests, fits))
-room_for false false count fits unknown = absurd (false≢true fits)
-
--- an image that an opening takes is one that fits
-pub fits_by : (s : State) (w : WholeImage) → image_fits s w ≡ true → Fits s (whole_entry s.site.book w) w.completed
-fits_by s w fits =
-    let k = and_parts _ (nat_le (whole_pieces s w) piece_limit) fits in
-    let h = and_parts _ (nat_le w.completed last_moment) k.0 in
-    let g = and_parts _ (is_base_below w.base w.id.time) h.0 in
-    let f = and_parts _ (nat_le w.id.time last_moment) g.0 in
-    let e = and_parts _ (nat_le 1 w.id.time) f.0 in
-    let d = and_parts _ (client_fits s w) e.0 in
-    let c = and_parts _ (is_some (version_named w.lifecycle w.version s.site.book.lifecycles)) d.0 in
-    let b = and_parts _ (has policy_name w.policy s.site.book.policies) c.0 in
-    let a = and_parts (nat_lt (length s.images) image_limit) (not (has_image w.id s.images)) b.0 in
-    let room : nat_lt (length s.images) image_limit ≡ true = a.0 in
-    let from : nat_le 1 w.id.time ≡ true = e.1 in
-    let to : nat_le w.id.time last_moment ≡ true = f.1 in
-    let late : nat_le w.completed last_moment ≡ true = h.1 in
-    let few : nat_le (whole_pieces s w) piece_limit ≡ true = k.1 in
-    record {
-      room = grind (arith, nat_tests, room);
-      fresh = not-true (has_image w.id s.images) a.1;
-      policy = b.1;
-      version = c.1;
-      client = room_for (is_known w.id.client s.site.book) (takes_all w.policy) (length s.site.book.clients) d.1;
-      time = (grind (arith, nat_tests, from), grind (arith, nat_tests, to));
-      base = is_base w.base w.id.time g.1;
-      completed = grind (arith, nat_tests, late);
-      few = grind (arith, nat_tests, few);
-    }
-
--- and it leaves a state sound, with bytes of its length
-pub whole_sound : (s : State) → Sound s → (w : WholeImage) (bytes : List ℕ) → w.length ≡ length bytes → image_fits s w ≡ true → Sound (sealed (whole_image s w bytes) (whole_unit s w) s)
-whole_sound s sound w bytes long fits =
-    subst (λ (n : ℕ). Sound (sealed (whole_image s (record w { length = n }) bytes) (whole_unit s w) s)) (sym long)
-    (seal_sound s sound w.id w.policy w.schedule w.kind w.base w.lifecycle w.version w.completed bytes
-    (subst (λ (n : ℕ). Fits s (whole_entry s.site.book (record w { length = n })) w.completed) long (fits_by s w fits)))
 
 -- Records.
 

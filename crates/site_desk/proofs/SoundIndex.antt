@@ -30,7 +30,7 @@ use Rattle.desk_rules.specs.Decisions.{IsDecision}
 use Rattle.desk_rules.specs.Seen.{blank}
 use Rattle.desk_rules.specs.SiteChanges.{site_made}
 use Rattle.desk_rules.proofs.SeenLemmas.{entries_seen}
-use Rattle.site_desk.specs.Stands.{client_fits, image_fits, is_base_below, whole_entry, whole_image, whole_pieces, whole_unit}
+use Rattle.vault_ledger.specs.Fitting.{client_fits, image_fits, is_base_below, whole_entry, whole_image, whole_pieces, whole_unit}
 use Rattle.site_desk.specs.SoundIndex.{SoundState}
 use Rattle.site_desk.specs.Index.{built, FitsIndex}
 use Rattle.site_desk.specs.declared.index.Index.{Index}

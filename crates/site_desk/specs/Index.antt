@@ -9,7 +9,8 @@ use Rattle.desk_model.specs.declared.site.Site.{Site}
 use Rattle.desk_model.specs.State.{State, Image, Stored, initial, entries}
 use Rattle.desk_model.specs.Refusals.{first_refusal}
 use Rattle.desk_model.specs.Settings.{setting_refusals, site_after}
-use Rattle.site_desk.specs.Stands.{applied, image_fits}
+use Rattle.vault_ledger.specs.Fitting.{image_fits}
+use Rattle.site_desk.specs.Stands.{applied}
 use Rattle.site_desk.specs.Extents.{extent_of, Catalogued}
 use Rattle.site_desk.specs.declared.extents.Extent.{Extent}
 use Rattle.site_desk.specs.declared.index.Index.{Index}

@@ -2,7 +2,7 @@
 ghost use Rattle.std.specs.Prelude.{◌≡◌, ◌≤◌, true, is_some, IfOk, OnOk, length};
 ghost use Rattle.slp_tree.specs.Lifecycles.{version_named};
 ghost use Rattle.desk_model.specs.Backups.{states_of};
-ghost use Rattle.site_desk.specs.Stands.{whole_entry};
+ghost use Rattle.vault_ledger.specs.Fitting.{whole_entry};
 
 use policy_book::Book;
 use pool_journal::WholeImage;

@@ -11,7 +11,8 @@ ghost use Rattle.desk_model.specs.Site.{initial_site};
 ghost use Rattle.desk_model.specs.State.{Image, Stored, entries, has_image};
 ghost use Rattle.desk_model.specs.Backups.{image_limit, is_known, operations_in, takes_all, unit_at, unit_of};
 ghost use Rattle.desk_model.specs.Pieces.{piece_count, piece_limit};
-ghost use Rattle.site_desk.specs.Stands.{apply, is_base_below, image_fits};
+ghost use Rattle.vault_ledger.specs.Fitting.{is_base_below, image_fits};
+ghost use Rattle.site_desk.specs.Stands.{apply};
 ghost use Rattle.site_desk.specs.Index.{built, FitsIndex, Remembers, IsReplayed, SameIndex};
 ghost use Rattle.site_desk.specs.Replays.{AreRead, Reaches, IsReached};
 

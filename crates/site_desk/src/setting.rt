@@ -7,7 +7,7 @@ ghost use Rattle.site_types.specs.Lines.{is_space, line_of, read_line, IsFormed}
 ghost use Rattle.pool_journal.specs.Records.{Found};
 ghost use Rattle.desk_model.specs.State.{Image, Stored};
 ghost use Rattle.desk_model.specs.Settings.{is_setting};
-ghost use Rattle.site_desk.specs.Stands.{settled, settled_by};
+ghost use Rattle.vault_ledger.specs.Fitting.{settled, settled_by};
 ghost use Rattle.site_desk.specs.Index.{built, Remembers};
 ghost use Rattle.site_desk.specs.Replays.{setting_of, IsReached};
 

@@ -17,7 +17,9 @@ use Rattle.desk_model.proofs.NamedLemmas.{has-put, has-changed, named-changed, s
 use Rattle.desk_model.proofs.Passing.{all_passed}
 use Rattle.desk_model.proofs.SoundSteps.{set_sound}
 use Rattle.desk_model.proofs.Staying.{UnitsStay}
-use Rattle.vault_ledger.specs.Fitting.{is_settled, settled_as, settled_by, settled}
+use Rattle.vault_ledger.specs.Fitting.{settled_by, settled}
+use Rattle.vault_ledger.proofs.SettledLines.{line_done}
+use Rattle.vault_ledger.proofs.UnitPlaces.{places_stay}
 use Rattle.vault_ledger.specs.Ledger.{Ledger, live_on, pieces_fit, slots_of, with_outline}
 use Rattle.vault_ledger.specs.Wellformed.{IsLedger, set_units}
 
@@ -33,33 +35,6 @@ refusals_same r s images stored listed = ap (λ (l : List (Bool × Answer)). map
     at : (o : Option Removal) → option_map_or (λ removal. uses_of removal (record s { images = images; stored = stored })) o [] ≡ option_map_or (λ removal. uses_of removal s) o []
     at None = refl
     at (Some removal) = uses_same removal s images stored listed
-
--- The units stay, with their segments.
-
-unit_put_stays : (book : Book) (new : StorageUnit) → has unit_name new.name book.units ≡ false → UnitsStay book (record book { units = put unit_name new book.units })
-unit_put_stays book new fresh other there =
-    (has-put unit_name new other book.units there, ap (λ (o : Option StorageUnit). (unwrap_or o disk0).segment) (named-put unit_name new other book.units) ∙ at (bytes_eq new.name other) refl)
-  where
-    at : (b : Bool) → bytes_eq new.name other ≡ b → (unwrap_or (if b then Some new else named unit_name other book.units) disk0).segment ≡ (unwrap_or (named unit_name other book.units) disk0).segment
-    at true same = absurd (false≢true (sym fresh ∙ ap (λ (n : List ℕ). has unit_name n book.units) (text_is new.name other same) ∙ there))
-    at false differs = refl
-
-unit_with_stays : (book : Book) (name : List ℕ) (c : UnitChange) → UnitsStay book (record book { units = changed unit_name name (unit_with c) book.units })
-unit_with_stays book name c other there =
-    let one = some_named unit_name other book.units there in (
-      has-changed unit_name name (unit_with c) (λ u. refl) other book.units ∙ there,
-      ap (λ (o : Option StorageUnit). (unwrap_or o disk0).segment) (named-changed unit_name name (unit_with c) (λ u. refl) other book.units one.0 one.1) ∙ at (bytes_eq one.0.name name) one.0 ∙ ap (λ (o : Option StorageUnit). (unwrap_or o disk0).segment) (sym one.1),
-    )
-  where
-    at : (b : Bool) (u : StorageUnit) → (if b then unit_with c u else u).segment ≡ u.segment
-    at true u = refl
-    at false u = refl
-
-set_stays : (r : Request) (s : State) → first_refusal (setting_refusals r s) ≡ None → UnitsStay s.site.book (book_after r s.site.book)
-set_stays (request.UnitAdd name capacity segment fragment slots high low) s none =
-    unit_put_stays s.site.book (unit_of name _ (record { capacity = capacity; segment = segment; fragment = fragment; slots = slots; high = high; low = low })) (all_passed (setting_refusals (request.UnitAdd name capacity segment fragment slots high low) s) none).1.0
-set_stays (request.UnitChange name capacity slots high low) s none = unit_with_stays s.site.book name (record { capacity = capacity; slots = slots; high = high; low = low })
-set_stays r s none = λ name there. (there, refl)
 
 -- A set more is of the same unit.
 set_units_after : (r : Request) (sets sets' : List Stored) → set_units sets ≡ set_units sets' → set_units (stored_after r sets) ≡ set_units (stored_after r sets')
@@ -81,7 +56,7 @@ module _ (l : Ledger) (kept : IsLedger l) where
   set_kept : (r : Request) → Asks r → first_refusal (setting_refusals r old) ≡ None → IsLedger (with_outline l (set_by r old))
   set_kept r asks none =
       let shape = kept.shape in
-      let stay = set_stays r old none in
+      let stay = places_stay r old none in
       record {
         shape = record {
           images = shape.images;
@@ -95,35 +70,20 @@ module _ (l : Ledger) (kept : IsLedger l) where
         live = λ s among.
             let here = kept.live s among in
             let there = stay s.unit here.unit in
-            record { unit = there.0; slot = here.slot; some = here.some; size = subst (λ (size : ℕ). s.segment.length ≤ size) (sym there.1) here.size };
+            record { unit = there.0; slot = here.slot; some = here.some; size = subst (λ (size : ℕ). s.segment.length ≤ size) (sym (ap (λ (p : ℕ × ℕ). p.1) there.1)) here.size };
         apart = kept.apart;
         images = λ image among.
             let here = kept.images image among in
             let there = stay here.copy.unit here.unit in
-            record { copy = here.copy; only = here.only; unit = there.0; pieces = ap (λ (size : ℕ). pieces_fit size (live_on here.copy.unit l.live) image.entry.length (slots_of image.entry.id here.copy.number l.placements)) there.1 ∙ here.pieces };
+            record { copy = here.copy; only = here.only; unit = there.0; pieces = ap (λ (size : ℕ). pieces_fit size (live_on here.copy.unit l.live) image.entry.length (slots_of image.entry.id here.copy.number l.placements)) (ap (λ (p : ℕ × ℕ). p.1) there.1) ∙ here.pieces };
       }
 
 -- Lines.
 
-none_there : {A : Type 0} (o : Option A) → is_none o ≡ true → o ≡ None
-none_there None is = refl
-none_there (Some x) is = absurd (false≢true is)
-
-read_ok : (line : List ℕ) (r : Request) → result_ok (read_line line) ≡ Some r → read_line line ≡ Ok r
-read_ok line r is = at (read_line line) is
-  where
-    at : (o : Result Request ℕ) → result_ok o ≡ Some r → o ≡ Ok r
-    at (Ok x) some = let same : x ≡ r = cc some in ap (λ (y : Request). Ok y) same
-    at (Err index) some = absurd (cc some)
-
 line_kept : (l : Ledger) → IsLedger l → (line : List ℕ) (t : State) → settled_by l.outline line ≡ Some t → IsLedger (with_outline l t)
 line_kept l kept line t is =
-    let s = l.outline in
-    let asked = chained (settled_as s line) (result_ok (read_line line)) t is in
-    let done = guarded (is_settled s line asked.0) (Some (set_by asked.0 s)) t asked.2 in
-    let none = none_there (first_refusal (setting_refusals asked.0 s)) (and_parts (is_setting asked.0 && bytes_eq (line_of asked.0) line) (is_none (first_refusal (setting_refusals asked.0 s))) done.0).1 in
-    let same : set_by asked.0 s ≡ t = cc done.1 in
-    subst (λ (u : State). IsLedger (with_outline l u)) same (set_kept l kept asked.0 (line_asks line asked.0 (read_ok line asked.0 asked.1)) none)
+    let done = line_done l.outline line t is in
+    subst (λ (u : State). IsLedger (with_outline l u)) done.3 (set_kept l kept done.0 done.1 done.2)
 
 pub lines_kept : (lines : List (List ℕ)) (l : Ledger) (t : State) → IsLedger l → settled l.outline lines ≡ Some t → IsLedger (with_outline l t)
 lines_kept [] l t kept is = let same : l.outline ≡ t = cc is in subst (λ (u : State). IsLedger (with_outline l u)) same kept

@@ -1,3 +1,5 @@
+pub mod UnitPlaces
+pub mod SettledLines
 pub mod SpelledPieces
 pub mod FittingImages
 pub mod KeptSettings

@@ -8,57 +8,20 @@ use Rattle.site_types.specs.declared.image.CopyRecord.{CopyRecord}
 use Rattle.site_types.specs.declared.request.Request.{Request}
 use Rattle.site_types.specs.declared.request.Request.TheVariants as request
 use Rattle.site_types.specs.declared.unit.Unit.{Unit as StorageUnit}
-use Rattle.slp_tree.proofs.ListLemmas.{named-put, text_is}
+use Rattle.slp_tree.proofs.ListLemmas.{text_is}
 use Rattle.vault_disk.specs.Disk.{Image as DiskImage}
 use Rattle.pool_journal.specs.declared.segments.NewSegment.{NewSegment}
 use Rattle.policy_book.specs.Lists.{changed, has, named, put}
 use Rattle.policy_book.specs.Book.{Book, disk0, unit_name}
 use Rattle.policy_book.specs.Changes.{unit_of, unit_with}
-use Rattle.policy_book.specs.declared.units.UnitChange.{UnitChange}
 use Rattle.policy_book.specs.Requests.{book_after}
 use Rattle.desk_model.specs.State.{State, Image, Stored}
 use Rattle.desk_model.specs.Refusals.{first_refusal}
 use Rattle.desk_model.specs.Backups.{unit_at}
 use Rattle.desk_model.specs.Settings.{set_by, setting_refusals, stored_after}
-use Rattle.desk_model.proofs.NamedLemmas.{named-changed, some_named}
 use Rattle.desk_model.proofs.Passing.{all_passed}
+use Rattle.vault_ledger.proofs.UnitPlaces.{places_stay}
 use Rattle.vault_ledger.specs.Ledger.{Ledger, LiveSlot, bytes_by, image_over, live_on, piece_in, pieces_on, pool_file, segment_of, set_over, slots_of, spelled, state_over, with_outline}
-
--- where a unit's pool is, and the size of its segments
-abbrev pub place : StorageUnit → ℕ × ℕ
-place u = (u.number, u.segment)
-
--- units that were there have their pools where they were
-abbrev pub PlacesStay : Book → Book → Type 0
-PlacesStay old new = (name : List ℕ) → has unit_name name old.units ≡ true → place (unit_at name new) ≡ place (unit_at name old)
-
--- no change of the site moves a pool
-pub places_stay : (r : Request) (s : State) → first_refusal (setting_refusals r s) ≡ None → PlacesStay s.site.book (book_after r s.site.book)
-places_stay (request.UnitAdd name capacity segment fragment slots high low) s none other there =
-    ap (λ (o : Option StorageUnit). place (unwrap_or o disk0)) (named-put unit_name new other s.site.book.units) ∙ at (bytes_eq name other) refl
-  where
-    new : StorageUnit
-    new = unit_of name (length s.site.book.units) (record { capacity = capacity; segment = segment; fragment = fragment; slots = slots; high = high; low = low })
-
-    fresh : has unit_name name s.site.book.units ≡ false
-    fresh = (all_passed (setting_refusals (request.UnitAdd name capacity segment fragment slots high low) s) none).1.0
-
-    at : (b : Bool) → bytes_eq name other ≡ b → place (unwrap_or (if b then Some new else named unit_name other s.site.book.units) disk0) ≡ place (unit_at other s.site.book)
-    at true same = absurd (false≢true (sym fresh ∙ ap (λ (n : List ℕ). has unit_name n s.site.book.units) (text_is name other same) ∙ there))
-    at false differs = refl
-places_stay (request.UnitChange name capacity slots high low) s none other there =
-    let one = some_named unit_name other s.site.book.units there in
-    ap (λ (o : Option StorageUnit). place (unwrap_or o disk0)) (named-changed unit_name name (unit_with change) (λ u. refl) other s.site.book.units one.0 one.1)
-    ∙ at (bytes_eq one.0.name name) one.0
-    ∙ ap (λ (o : Option StorageUnit). place (unwrap_or o disk0)) (sym one.1)
-  where
-    change : UnitChange
-    change = record { capacity = capacity; slots = slots; high = high; low = low }
-
-    at : (b : Bool) (u : StorageUnit) → place (if b then unit_with change u else u) ≡ place u
-    at true u = refl
-    at false u = refl
-places_stay r s none other there = refl
 
 -- the units of copies, sets and live slots are there
 pub record AreThere (l : Ledger) : Type 0 where
@@ -76,7 +39,7 @@ module _ (c : DiskImage) (l : Ledger) (there : AreThere l) (r : Request) (none :
       at : (copies : List CopyRecord) → ((copy : CopyRecord) → Contains copies copy → has unit_name copy.unit l.outline.site.book.units ≡ true) → bytes_by c l image.entry copies ≡ bytes_by c after image.entry copies
       at [] known = refl
       at (copy ∷ copies) known =
-          ap (λ (p : ℕ × ℕ). spelled (c (2 + p.0)) p.1 image.entry.length (slots_of image.entry.id copy.number l.placements)) (sym (places_stay r l.outline none copy.unit (known copy (0, omega arith, refl))))
+          ap (λ (p : ℕ × ℕ). spelled (c (2 + p.0)) p.1 image.entry.length (slots_of image.entry.id copy.number l.placements)) (sym (places_stay r l.outline none copy.unit (known copy (0, omega arith, refl))).1)
 
   same_images : (images : List Image) → ((i : Image) → Contains images i → Contains l.outline.images i) → map (image_over c l) images ≡ map (image_over c after) images
   same_images [] among = refl
@@ -88,7 +51,7 @@ module _ (c : DiskImage) (l : Ledger) (there : AreThere l) (r : Request) (none :
   same_sets : (sets : List Stored) → ((set : Stored) → Contains sets set → Contains l.outline.stored set) → map (set_over c l) sets ≡ map (set_over c after) sets
   same_sets [] among = refl
   same_sets (set ∷ sets) among =
-      let here = ap (λ (p : ℕ × ℕ). record { unit = set.unit; pieces = map (piece_in (c (2 + p.0)) p.1) (live_on set.unit l.live) }) (sym (places_stay r l.outline none set.unit (there.sets set (among set (0, omega arith, refl))))) in
+      let here = ap (λ (p : ℕ × ℕ). record { unit = set.unit; pieces = map (piece_in (c (2 + p.0)) p.1) (live_on set.unit l.live) }) (sym (places_stay r l.outline none set.unit (there.sets set (among set (0, omega arith, refl)))).1) in
       let later = same_sets sets (λ other has. among other (suc has.0, omega (arith, has.1), has.2)) in
       λ k. here k ∷ later k
 

@@ -1,7 +1,7 @@
 use Rattle.std.proofs.Common.{List, drop}
 use Rattle.pool_journal.specs.Records.{Found}
 use Rattle.desk_model.specs.State.{Image, Stored}
-use Rattle.site_desk.specs.Stands.{settled}
+use Rattle.vault_ledger.specs.Fitting.{settled}
 use Rattle.site_desk.specs.Index.{built, Remembers}
 use Rattle.site_desk.proofs.ReplayLemmas.{SettledSoFar}
 use Rattle.site_desk.proofs.setting.settle_lines.Given as goal
