@@ -10,7 +10,6 @@ use Rattle.vault_disk.proofs.Moments.{goes_on, weaker}
 use Rattle.segment_pool.specs.Pieces.{pieces}
 use Rattle.segment_pool.specs.Placing.{KeepsPieces, Touches, bytes_in}
 use Rattle.segment_pool.specs.Slots.{PoolState}
-use Rattle.segment_pool.specs.declared.slot.Slot.{Slot}
 use Rattle.segment_pool.proofs.PieceLemmas.{begins_within, piece_at}
 use Rattle.copy_fragments.specs.Copies.{IsPieceCount}
 use Rattle.copy_fragments.specs.Placings.{PinnedEach, times}

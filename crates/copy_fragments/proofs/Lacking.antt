@@ -1,5 +1,5 @@
 -- What some pieces add to a set of pieces.
-use Rattle.std.proofs.Common.{◌≡◌, inl, inr, ⊎_elim, ℕ, zero, suc, ◌+◌, ◌<◌, ◌≤◌, List, [], ◌∷◌, ◌++◌, length, take, drop, Some, None, refl, sym, ◌∙◌, ap, subst, arith, true, false, length-append}
+use Rattle.std.proofs.Common.{◌≡◌, inl, inr, ⊎_elim, ℕ, zero, suc, ◌+◌, ◌<◌, ◌≤◌, List, [], ◌∷◌, ◌++◌, length, take, drop, Some, None, refl, sym, ◌∙◌, ap, subst, arith, true, false}
 use Rattle.std.specs.Prelude.{Bool, Option, ◌⊎◌, if◌then◌else◌, ◌||◌, slice_get}
 use Rattle.std.specs.List.{list_any}
 use Rattle.std.specs.Str.{bytes_eq}
@@ -49,9 +49,6 @@ any_in piece [] there = absurd there
 any_in piece (x ∷ xs) there = ⊎_elim
     (λ here. true_or (bytes_eq x piece) ((bytes_eq-Decides x piece).1 here) (list_any (λ p. bytes_eq p piece) xs))
     (λ behind. or_true (bytes_eq x piece) (list_any (λ p. bytes_eq p piece) xs) (any_in piece xs behind)) there
-
-none_in : (piece : List ℕ) (xs : List (List ℕ)) → list_any (λ p. bytes_eq p piece) xs ≡ false → In piece xs → ⊥
-none_in piece xs none there = let some = any_in piece xs there in absurd (cc (none, some))
 
 not_in : (piece : List ℕ) (xs : List (List ℕ)) (b : Bool) → list_any (λ p. bytes_eq p piece) xs ≡ b → (In piece xs → ⊥) → b ≡ false
 not_in piece xs true is none = absurd (none (found_in piece xs is))

@@ -1,10 +1,10 @@
 -- How slots are pinned for pieces, and how those pins are taken back.
-use Rattle.std.proofs.Common.{◌≡◌, ◌≢◌, ⊎_elim, ℕ, suc, ◌+◌, ◌-◌, ◌<◌, ◌≤◌, List, [], ◌∷◌, ◌++◌, length, take, get_or, Some, None, refl, sym, ◌∙◌, ap, subst, arith, true, false, length-append}
+use Rattle.std.proofs.Common.{◌≡◌, ◌≢◌, ⊎_elim, ℕ, suc, ◌+◌, ◌-◌, ◌<◌, ◌≤◌, List, [], ◌∷◌, ◌++◌, length, take, get_or, Some, None, refl, sym, ◌∙◌, ap, arith, true, false}
 use Rattle.std.specs.Prelude.{Bool, Option, cond, if◌then◌else◌, ◌||◌, ◌==◌, nat_lt, is_some}
 use Rattle.std.specs.List.{count_by}
 use Rattle.std.proofs.lemmas.Bool.{cases_eq, cases_lt}
 use Rattle.std.proofs.lemmas.Bool.Decides.{nat_tests}
-use Rattle.std.proofs.lemmas.List.Sums.{count_by-le-length, sum_by-cons, sum_by_more, sum_by_push, sum_by-take-le}
+use Rattle.std.proofs.lemmas.List.Sums.{count_by-le-length, sum_by-cons, sum_by_more, sum_by_push}
 use Rattle.segment_pool.specs.declared.slot.Slot.{Slot}
 use Rattle.segment_pool.specs.Slots.{AreSound, Becomes, IsAsBefore, IsPinnedAtMost, PinnedAgain, Placed, PoolState, at_slot, held, number_held, one_if_held, room_beside, while_held}
 use Rattle.copy_fragments.specs.Placings.{PinnedEach, times}
@@ -61,9 +61,9 @@ module _ (old now new : PoolState) (slot : ℕ) (done next all : List ℕ) (more
         had.1,
         enough,
         ⊎_elim
-        (λ some. so_far.less slot had.0 had.1 some ∙ pinned_held (with_pins had.0 (had.0.pins - times slot done)) (omega (arith, enough, more.here)))
-        (λ few. so_far.others slot (omega (arith, few)) ∙ had.1 ∙ ap (λ (k : ℕ). Some (with_pins had.0 k)) (omega (arith, few)))
-        (cases_lt 0 (times slot done)),
+            (λ some. so_far.less slot had.0 had.1 some ∙ pinned_held (with_pins had.0 (had.0.pins - times slot done)) (omega (arith, enough, more.here)))
+            (λ few. so_far.others slot (omega (arith, few)) ∙ had.1 ∙ ap (λ (k : ℕ). Some (with_pins had.0 k)) (omega (arith, few)))
+            (cases_lt 0 (times slot done)),
       )
 
   pub held_still : (what : Slot) × (held now slot ≡ Some what) × (0 < what.pins)
@@ -90,21 +90,6 @@ module _ (old now new : PoolState) (slot : ℕ) (done next all : List ℕ) (more
             (cases_eq t slot);
         beside = λ n. omega (arith, b.beside n, so_far.beside n);
       }
-
--- nothing is unpinned yet
-pub unpinned_none : (pool : PoolState) → UnpinnedEach pool pool []
-unpinned_none pool = record { file = refl; size = refl; limit = refl; less = λ s w is some. absurd (omega (arith, some)); others = λ s none. refl; beside = λ n. omega arith }
-
--- no piece is placed yet
-pub pinned_none : (start now : PoolState) → IsAsBefore start now → PinnedEach start now []
-pinned_none start now before = record {
-  file = before.file;
-  size = before.size;
-  limit = before.slots;
-  again = λ s w is. before.same s ∙ is ∙ ap (λ (k : ℕ). Some (with_pins w k)) (let z : w.pins ≡ w.pins + 0 = omega arith in z);
-  others = λ s free none. before.same s ∙ free;
-  placed = λ s free some. absurd (omega (arith, some));
-}
 
 -- a slot is pinned once more, for one piece more
 module _ (start now new : PoolState) (slot n : ℕ) (digest done next : List ℕ) (more : OneMore slot done next) (so_far : PinnedEach start now done) where

@@ -1,17 +1,12 @@
--- What is known once one piece more is placed, or refused.
-use Rattle.std.proofs.Common.{◌≡◌, ◌≢◌, inl, inr, ⊎_elim, ℕ, zero, suc, ◌+◌, ◌-◌, ◌*◌, ◌<◌, ◌≤◌, List, [], ◌∷◌, ◌++◌, length, take, Some, None, refl, sym, ◌∙◌, ap, subst, arith, length-append}
+-- What is known of the slots once one piece more is placed, or refused.
+use Rattle.std.proofs.Common.{◌≡◌, inl, inr, ⊎_elim, ℕ, zero, suc, ◌+◌, ◌<◌, ◌≤◌, List, [], ◌∷◌, ◌++◌, length, Some, None, refl, ◌∙◌, ap, arith, length-append}
 use Rattle.std.specs.Prelude.{Option, ◌⊎◌, is_some, cond, IsSome}
 use Rattle.std.specs.List.{count_by}
-use Rattle.std.proofs.lemmas.Bool.{cases_eq, cases_lt}
 use Rattle.std.proofs.lemmas.List.Sums.{sum_by-cons}
 use Rattle.segment_pool.specs.declared.slot.Slot.{Slot}
-use Rattle.segment_pool.specs.Slots.{AreSound, Becomes, IsAsBefore, IsLowestFree, IsPinnedAtMost, PinnedAgain, Placed, PoolState, at_slot, held, number_held, one_if_held, spare}
-use Rattle.copy_fragments.specs.Placings.{PinnedEach, times}
+use Rattle.segment_pool.specs.Slots.{IsAsBefore, IsLowestFree, PinnedAgain, Placed, PoolState, at_slot, number_held, one_if_held, spare}
 use Rattle.copy_fragments.specs.PlacingSteps.{PlacedSoFar}
-use Rattle.copy_fragments.proofs.Pinning.{pinned_again, pinned_before, pinned_new, pinned_none, push_more}
-
-held_counts : (o : Option Slot) (w : Slot) → o ≡ Some w → one_if_held o ≡ 1
-held_counts o w is = ap one_if_held is
+use Rattle.copy_fragments.proofs.Pinning.{pinned_again, pinned_before, pinned_new, push_more}
 
 -- a slot that is pinned once more counts as before
 pub again_number : (now new : PoolState) (slot n : ℕ) (digest : List ℕ) → PinnedAgain now new slot n digest → number_held new ≡ number_held now
@@ -28,16 +23,6 @@ pub spare_on : (now new : PoolState) (slot n : ℕ) (digest : List ℕ) → Pinn
 spare_on now new slot n digest pinned = ⊎_elim
     (λ again. omega (arith, again_spare now new slot n digest again))
     (λ placed. omega (arith, placed.now.room, ap one_if_held placed.lowest.free)) pinned
-
--- nothing is placed yet
-pub none_placed : (start now : PoolState) → IsAsBefore start now → PlacedSoFar start now []
-none_placed start now before = record {
-  pinned = pinned_none start now before;
-  beside = before.beside;
-  no_fewer = omega (arith, before.number);
-  no_more = omega (arith, before.number);
-  fits = inl before.number;
-}
 
 -- one piece more is placed
 pub placed_on : (start now new : PoolState) (slot n : ℕ) (digest done : List ℕ) → PlacedSoFar start now done → PinnedAgain now new slot n digest ⊎ Placed now new slot n digest → PlacedSoFar start new (done ++ slot ∷ [])

@@ -1,18 +1,18 @@
 -- Why a piece was refused, and what that leaves.
-use Rattle.std.proofs.Common.{◌≡◌, ◌≢◌, ⊎_elim, ℕ, suc, ◌+◌, ◌*◌, ◌<◌, ◌≤◌, max, List, [], length, take, get_or, Some, None, Ok, Err, refl, sym, ◌∙◌, ap, subst, arith}
-use Rattle.std.specs.Prelude.{Option, Result, IfErr, ◌⊎◌, slice_get}
+use Rattle.std.proofs.Common.{◌≡◌, ◌≢◌, ⊎_elim, ℕ, ◌+◌, ◌*◌, ◌<◌, ◌≤◌, List, [], length, get_or, Some, None, Ok, Err, refl, sym, ◌∙◌, ap, subst, arith}
+use Rattle.std.specs.Prelude.{Option, Result, IfErr, slice_get}
 use Rattle.std.proofs.Math.Nat.{mul-le-mul_right}
 use Rattle.std.proofs.lemmas.Bool.{cases_lt}
 use Rattle.std.proofs.lemmas.Option.{slice_get-get_or, slice_get_within}
 use Rattle.vault_disk.specs.Disk.{Disk, Image, IsSame}
-use Rattle.segment_pool.specs.Faults.{FaultHolds, FaultTold, IsDamage, IsDiskFault}
-use Rattle.segment_pool.specs.Placing.{HasPiece, IsDamaged, IsTruePool, KeepsPieces, Touches}
+use Rattle.segment_pool.specs.Faults.{FaultHolds, FaultTold, IsDamage}
+use Rattle.segment_pool.specs.Placing.{IsDamaged, IsTruePool, KeepsPieces, Touches}
 use Rattle.segment_pool.specs.Slots.{IsLowestFree, PoolState, held, number_held, spare}
 use Rattle.segment_pool.specs.declared.fault.PoolFault.{PoolFault}
 use Rattle.segment_pool.specs.declared.fault.PoolFault.TheVariants as fault
 use Rattle.segment_pool.specs.declared.fault.ReadTrouble.TheVariants as trouble
 use Rattle.segment_pool.specs.declared.slot.Slot.{Slot}
-use Rattle.copy_fragments.specs.Placings.{PinnedEach, PlacingFails, PlacingTold, held_pieces, lacking, new_pieces, times}
+use Rattle.copy_fragments.specs.Placings.{PlacingFails, PlacingTold, held_pieces, lacking, new_pieces, times}
 use Rattle.copy_fragments.specs.PlacingSteps.{HasPieces, IsDamageOf, PlacedSoFar, StaysTrue}
 use Rattle.copy_fragments.proofs.Kept.{keeps_from, keeps_wider, slot_end, touches_as, touches_on, touches_wider}
 use Rattle.copy_fragments.proofs.Lacking.{front_lacking}

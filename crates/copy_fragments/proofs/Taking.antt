@@ -7,12 +7,11 @@ use Rattle.std.proofs.lemmas.List.Sums.{sum_by-cons}
 use Rattle.std.proofs.lemmas.Option.{slice_get-get_or, slice_get_within}
 use Rattle.vault_disk.specs.Disk.{Disk, Image, IsSame}
 use Rattle.vault_disk.specs.Steps.{LookedAround}
-use Rattle.vault_disk.proofs.Moments.{started}
 use Rattle.segment_pool.specs.Placing.{HasPiece, IsTruePool, KeepsPieces, Touches, bytes_in}
-use Rattle.segment_pool.specs.Slots.{Becomes, IsAsBefore, IsLowestFree, PinnedAgain, Placed, PoolState, held, number_held}
+use Rattle.segment_pool.specs.Slots.{Becomes, IsLowestFree, PinnedAgain, Placed, PoolState, held, number_held}
 use Rattle.segment_pool.specs.declared.slot.Slot.{Slot}
-use Rattle.segment_pool.proofs.Placings.{keeps_same, kept_self}
-use Rattle.copy_fragments.specs.Placings.{PinnedEach, held_pieces, lacking, times}
+use Rattle.segment_pool.proofs.Placings.{keeps_same}
+use Rattle.copy_fragments.specs.Placings.{held_pieces, lacking, times}
 use Rattle.copy_fragments.specs.PlacingSteps.{HasPieces, PlacedSoFar, StaysTrue}
 use Rattle.copy_fragments.proofs.Kept.{keeps_from, keeps_on, keeps_wider, same_place, slot_end, touches_as, touches_on, touches_wider}
 use Rattle.copy_fragments.proofs.Lacking.{In, from_front, from_held, front_on, in_front, in_held, more_lacking, same_lacking}
@@ -52,30 +51,6 @@ push_at (x ∷ xs) slot (suc index) t is = ⊎_elim (λ before. inl before) (λ 
 -- a slot that is free is no held one
 pub free_held : {X : Type 0} (o : Option X) (w : X) → o ≡ None → o ≡ Some w → ⊥
 free_held o w free is = absurd (cc (free, is))
-
--- nothing is placed yet
-pub no_pieces : (digest_of : List ℕ → List ℕ) (start now : PoolState) (d : Disk) (all : List (List ℕ)) → HasPieces digest_of start now d d all []
-no_pieces digest_of start now d all = record {
-  touches = record { left = λ c left. (c, left, kept_self start _ c); during = started d _ };
-  keeps = kept_self start _ d.seen;
-  has = λ index slot piece at is. absurd (cc (at));
-}
-
-true_before : (digest_of : List ℕ → List ℕ) (start now : PoolState) (image : Image) → IsAsBefore start now → IsTruePool digest_of start image → IsTruePool digest_of now image
-true_before digest_of start now image before true_pool =
-    let bytes : (s n : ℕ) → bytes_in now image s n ≡ bytes_in start image s n = λ s n. (λ i. take n (drop (s * before.size i) (image (before.file i)))) in
-    record {
-      whole = λ s w is.
-          let was = true_pool.whole s w (sym (before.same s) ∙ is) in
-          record { length_is = ap length (bytes s w.length) ∙ was.length_is; digest_is = ap digest_of (bytes s w.length) ∙ was.digest_is };
-      distinct = λ s t x y at_s at_t equal. true_pool.distinct s t x y (sym (before.same s) ∙ at_s) (sym (before.same t) ∙ at_t) (sym (bytes s x.length) ∙ equal ∙ bytes t y.length);
-    }
-
-pub true_yet : (digest_of : List ℕ → List ℕ) (start now : PoolState) (d : Disk) (all : List (List ℕ)) → IsAsBefore start now → IsTruePool digest_of start d.seen → StaysTrue digest_of start now d d all []
-true_yet digest_of start now d all before true_pool = record {
-  true_pool = true_before digest_of start now d.seen before true_pool;
-  number = omega (arith, before.number);
-}
 
 -- a placed piece is where it was after one piece more
 becomes_has : (digest_of : List ℕ → List ℕ) (now new : PoolState) (slot end t : ℕ) (what : Option Slot) (w : Slot) (q : List ℕ) (c d : Image) → Becomes now new slot what → KeepsPieces now end c d → (has : HasPiece digest_of now c t q) → held new t ≡ Some w → w.length ≡ has.what.length → w.digest ≡ has.what.digest → HasPiece digest_of new d t q

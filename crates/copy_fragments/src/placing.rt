@@ -1,5 +1,5 @@
 // Placing the pieces of byte strings in a pool.
-ghost use Rattle.std.specs.Prelude.{[], ◌≢◌, vec_len, vec_capacity, ◌≡◌, ◌+◌, ◌-◌, ◌*◌, ◌<◌, ◌≤◌, ◌^◌, ◌++◌, ℕ, List, length, IfOk, IfErr, OnOk, OnErr};
+ghost use Rattle.std.specs.Prelude.{◌≡◌, ◌≢◌, ◌+◌, ◌-◌, ◌*◌, ◌<◌, ◌≤◌, ◌^◌, ◌++◌, [], ℕ, List, length, vec_capacity, vec_len, IfOk, IfErr, OnOk, OnErr};
 ghost use Rattle.vault_disk.specs.Disk.{IsSame};
 ghost use Rattle.segment_pool.specs.Pieces.{pieces};
 ghost use Rattle.segment_pool.specs.Placing.{IsTruePool, KeepsPieces, Touches};

@@ -1,6 +1,6 @@
 use crate::trial::{SIZE, Trial, Zeros};
 use copy_fragments::{CopyMap, piece_count};
-use segment_pool::{ReadTrouble, Sha256Print, cut};
+use segment_pool::{PoolFault, ReadTrouble, Sha256Print, cut};
 use std::alloc::Global;
 use std::test::*;
 
@@ -155,5 +155,59 @@ fn damage_is_told_by_both_digests(rt: HostRuntime) -> Result<(), Fail> {
     assert_eq!(rt; found_in(rt.alloc(), b"world")?, Some((HELLO, WORLD)));
     assert_eq!(rt; found_in(rt.alloc(), b"hell")?, Some((HELLO, HELL)));
     assert_eq!(rt; found_in(rt.alloc(), b"hello")?, None);
+    Ok(())
+}
+
+// The slots in which the pieces of some bytes were placed. The first so many pins are taken back again.
+fn placed(
+    alloc: Global,
+    trial: &mut Trial<Sha256Print>,
+    bytes: &[u8],
+    back: usize,
+) -> Result<Vec<u32>, Fail> {
+    match trial.place_bytes(alloc, &Sha256Print, bytes, back) {
+        Some(Ok(slots)) => Ok(slots),
+        _ => Err("not placed".into()),
+    }
+}
+
+#[test]
+fn equal_pieces_are_placed_once(rt: HostRuntime) -> Result<(), Fail> {
+    let mut trial = Trial::new(rt.alloc(), b"", Sha256Print)?;
+    let first = placed(rt.alloc(), &mut trial, b"hello", 0)?;
+    let second = placed(rt.alloc(), &mut trial, b"hello", 0)?;
+    assert!(rt; first.as_slice() == [0].as_slice() && second.as_slice() == [0].as_slice());
+    assert!(rt; trial.reads_as(0, b"hello") && trial.pool.end() == 1);
+    Ok(())
+}
+
+#[test]
+fn each_piece_pins_its_slot(rt: HostRuntime) -> Result<(), Fail> {
+    for back in 0..3 {
+        let mut trial = Trial::new(rt.alloc(), b"", Sha256Print)?;
+        let slots = placed(
+            rt.alloc(),
+            &mut trial,
+            b"xxxxxxxxxxxxxxxxxxxxxxxxxxxxxxxx",
+            back,
+        )?;
+        assert!(rt; slots.as_slice() == [0, 0].as_slice());
+        assert!(rt; trial.pool.held(0).is_some() == (back < 2));
+    }
+    Ok(())
+}
+
+#[test]
+fn bytes_with_too_many_new_pieces_are_refused(rt: HostRuntime) -> Result<(), Fail> {
+    let mut trial = Trial::new(rt.alloc(), b"", Sha256Print)?;
+    trial.pool.set_slots(1);
+    let answer = trial.place_bytes(
+        rt.alloc(),
+        &Sha256Print,
+        b"xxxxxxxxxxxxxxxxyyyyyyyyyyyyyyyy",
+        0,
+    );
+    assert!(rt; matches!(answer, Some(Err(PoolFault::Full { count: 2 }))));
+    assert!(rt; trial.pool.end() == 0);
     Ok(())
 }

@@ -3,7 +3,8 @@ ghost use Rattle.std.specs.Prelude.{◌≡◌, ◌+◌, ◌<◌, ◌≤◌, ◌^
 ghost use Rattle.segment_pool.specs.Slots.{IsPinnedAtMost, held};
 ghost use Rattle.segment_pool.specs.declared.slot.Slot.{Slot as Known};
 
-use segment_pool::{Fingerprint, Pool, ReadTrouble};
+use copy_fragments::{place, unpin_each};
+use segment_pool::{Fingerprint, Pool, PoolFault, ReadTrouble, cut};
 use std::alloc::Global;
 use vault_disk::{MemoryMachine, NoMemory};
 
@@ -67,6 +68,34 @@ impl<F: Fingerprint> Trial<F> {
         let slot = self.place(alloc, print, piece)?;
         self.pool.unpin(slot);
         Some(slot)
+    }
+
+    // The slots in which the pieces of some bytes were placed. The first so many pins are taken back again.
+    pub(crate) fn place_bytes(
+        &mut self,
+        alloc: Global,
+        print: &F,
+        bytes: &[u8],
+        back: usize,
+    ) -> Option<Result<Vec<u32>, PoolFault>> {
+        if bytes.len() > 1000 || self.placed > 1000 {
+            return None;
+        }
+        let pieces = cut(alloc, print, bytes, SIZE as u32).ok()?;
+        let mut slots = Vec::new(alloc);
+        self.placed += bytes.len() as u64;
+        if let Err(fault) = place(
+            alloc,
+            &mut self.pool,
+            &mut self.machine,
+            &pieces,
+            &mut slots,
+        ) {
+            return Some(Err(fault));
+        }
+        let count = back.min(slots.len());
+        unpin_each(&mut self.pool, &slots[..count]);
+        Some(Ok(slots))
     }
 
     // A recorded slot with a piece of this digest.

@@ -1,4 +1,4 @@
-use Rattle.std.proofs.Common.{◌≡◌, ℕ, ◌≤◌, List, length, subst, arith}
+use Rattle.std.proofs.Common.{ℕ, ◌≤◌, List, length, subst, arith}
 use Rattle.copy_fragments.specs.Copies.{IsPieceCount}
 use Rattle.copy_fragments.proofs.Kept.{counted_pieces}
 use Rattle.copy_fragments.proofs.placing.count_pieces.Goals as goal

@@ -13,8 +13,7 @@ unpin_each-requires g c = subst (λ (l : List ℕ). ArePinned c.place_each.new.p
 
 pub returns-in-Err-clause-refused : goal.returns-in-Err-clause-refused
 returns-in-Err-clause-refused g c =
-    let far = c.place_each.ensures.slots c.args.pool.now c.take_memory.ensures.pool in
-    (
+    let far = c.place_each.ensures.slots c.args.pool.now c.take_memory.ensures.pool in (
       as_before c.args.pool.now c.place_each.new.pool c.unpin_each.new.pool c.place_each.new.placed.items (sound_before c.args.pool.now c.take_memory.new.pool c.take_memory.ensures.pool c.in_ok-placed.ensures.sound) far.pinned
           (subst (λ (l : List ℕ). UnpinnedEach c.place_each.new.pool c.unpin_each.new.pool l) c.deref.ensures.value c.unpin_each.ensures) far.beside,
       c.take_memory.ensures.slots,
