@@ -2,3 +2,4 @@ pub mod Parts
 pub mod Pinning
 pub mod Progress
 pub mod Reading
+pub mod WholeReading
