@@ -1,3 +1,4 @@
 pub mod Copies
 pub mod PlacingSteps
 pub mod Placings
+pub mod WholeCopies

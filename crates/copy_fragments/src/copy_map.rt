@@ -50,7 +50,8 @@ impl CopyMap {
 
     /// The slot of each piece, in their order.
     pub fn slots(&self) -> &[u32]
-        ensures { result.now ≡ self.now.slots }
+        ensures is { result.now ≡ self.now.slots }
+        ensures count { IsPieceCount (length self.now.slots) self.now.size self.now.length }
     {
         &self.slots
     }
