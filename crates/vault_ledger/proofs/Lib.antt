@@ -11,3 +11,4 @@ pub mod Spelling
 pub mod SlotPieces
 pub mod SealedStates
 pub mod SettledStates
+pub mod KeptLedgers
