@@ -17,3 +17,4 @@ pub mod SettledStates
 pub mod LiveSlots
 pub mod Adoptions
 pub mod Kept
+pub mod KeptLedgers

@@ -175,8 +175,8 @@ module _ (c : DiskImage) (l : Ledger) (w : WholeImage) (segments : Segments) whe
         → state_over c after ≡ sealed (record { entry = entry; bytes = bytes }) unit (state_over c l)
     sealed_state apart lacking_id spells =
         let placed : map (image_over c after) after.outline.images ≡ with_image (record { entry = entry; bytes = bytes }) (map (image_over c l) l.outline.images) =
-            placed_by (image_over c after) (λ i. refl) (record { entry = entry; bytes = [] }) l.outline.images
-            ∙ (λ j. with_image (own_image bytes spells j) (other_images l.outline.images lacking_id j)) in
+        placed_by (image_over c after) (λ i. refl) (record { entry = entry; bytes = [] }) l.outline.images
+        ∙ (λ j. with_image (own_image bytes spells j) (other_images l.outline.images lacking_id j)) in
         let sets : map (set_over c after) after.outline.stored ≡ with_stored unit (pieces size bytes) (map (set_over c l) l.outline.stored) =
-            ap (map (set_over c after)) (stored_none unit l.outline.stored) ∙ sets_sealed l.outline.stored apart in
+        ap (map (set_over c after)) (stored_none unit l.outline.stored) ∙ sets_sealed l.outline.stored apart in
         λ j. record (after.outline) { images = placed j; stored = sets j }

@@ -159,7 +159,7 @@ module _ (file : List ℕ) (size : ℕ) where
         let parts = fit_parts n slot slots fit in
         let s = segment_of_piece known slot (min size n) apart parts.1 in
         let here : take (min size n) (drop (slot * size) file) ≡ piece_at known slot =
-            sym (ap (λ (o : Option NewSegment). option_map_or (piece_in file size) o []) s.1 ∙ (λ i. take (s.3 i) (drop (s.2 i * size) file))) in
+        sym (ap (λ (o : Option NewSegment). option_map_or (piece_in file size) o []) s.1 ∙ (λ i. take (s.3 i) (drop (s.2 i * size) file))) in
         let later = fit_cuts (n - size) slots parts.2 in
         λ i. here i ∷ later i
 
