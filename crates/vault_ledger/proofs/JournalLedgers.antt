@@ -17,8 +17,9 @@ new_kept = record {
   shape = record { images = []; stored = initial.stored; listed = refl; units = refl; sound = sound_initial };
   no_bytes = λ image (k, lt, is). absurd (omega arith);
   no_pieces = only;
+  sets = (λ other (k, lt, is). absurd (omega arith), tt);
   live = λ s (k, lt, is). absurd (omega arith);
-  apart = λ unit i j d below lt. absurd (omega arith);
+  slots = λ unit. tt;
   images = λ image (k, lt, is). absurd (omega arith);
 }
   where

@@ -1,12 +1,9 @@
 -- A backup that fits leaves what a ledger says in order.
-use Rattle.desk_model.proofs.Common.{◌≡◌, ◌≢◌, ◌≤◌, ◌<◌, ◌∙◌, ℕ, zero, suc, Bool, true, false, List, [], ◌∷◌, ◌++◌, length, map, replicate, refl, sym, ap, subst, arith, Some, cond, find, not, ◌&&◌, ◌==◌, nat_le, nat_lt, if◌then◌else◌, Contains, option_map_or, bytes_eq, false≢true, and_parts, bytes_eq-Decides, nat_tests, text_is, BackupId, has, Book, unit_name, same_id, with_record, pieces, State, Image, Stored, has_image, with_stored, operations_in, sealed, sealed_entry, Sound}
+use Rattle.desk_model.proofs.Common.{◌≡◌, ◌≤◌, ◌<◌, ◌∙◌, ℕ, zero, suc, Bool, true, false, List, [], ◌∷◌, ◌++◌, map, replicate, refl, sym, ap, subst, arith, Some, cond, find, not, ◌&&◌, ◌==◌, nat_le, nat_lt, if◌then◌else◌, Contains, option_map_or, bytes_eq, false≢true, and_parts, bytes_eq-Decides, nat_tests, text_is, BackupId, has, Book, unit_name, same_id, with_record, pieces, State, Image, Stored, has_image, with_stored, operations_in, sealed, Sound}
 use Rattle.std.proofs.Common.{⊎_elim}
-use Rattle.std.specs.Prelude.{filter}
-use Rattle.std.proofs.lemmas.Bool.{not-true}
-use Rattle.std.proofs.lemmas.List.{append-nil, append_assoc, length-replicate, map-append}
-use Rattle.std.proofs.lemmas.List.Elements.{Contains-append_cases, filter-append}
+use Rattle.std.proofs.lemmas.List.{append-nil, length-replicate}
+use Rattle.std.proofs.lemmas.List.Elements.{Contains-append_cases}
 use Rattle.std.proofs.lemmas.List.Folds.{list_any_at}
-use Rattle.std.proofs.lemmas.List.Quantifiers.{all_pairs_push}
 use Rattle.site_types.specs.declared.image.Expiry.TheVariants as expiry
 use Rattle.site_types.specs.declared.image.ImageRecord.{ImageRecord}
 use Rattle.pool_journal.specs.declared.entry.WholeImage.{WholeImage}
@@ -15,11 +12,13 @@ use Rattle.pool_journal.specs.declared.segments.Segments.{Segments}
 use Rattle.desk_model.proofs.ImageLists.{each-with, entries-with, same_is, same_self}
 use Rattle.desk_model.proofs.RuleLemmas.{are_sealed, rules_hold}
 use Rattle.desk_model.proofs.SealSound.{Fits}
-use Rattle.desk_model.proofs.StoredLemmas.{each_stored, more_in}
+use Rattle.desk_model.proofs.StoredLemmas.{more_in}
 use Rattle.vault_ledger.specs.Fitting.{image_fits, whole_entry, whole_image, whole_unit}
 use Rattle.vault_ledger.specs.Ledger.{Ledger, LiveSlot, Placement, added_fit, backup_fits, has_slot, live_on, pieces_fit, segment_of, segments_fit, slot_limit, slots_of, with_backup}
-use Rattle.vault_ledger.specs.Wellformed.{AreApart, IsLedger, IsLive, IsPlaced, Shape, set_units}
+use Rattle.vault_ledger.specs.Wellformed.{AreApart, AreSlots, IsLedger, IsLive, IsPlaced, Shape, set_units}
 use Rattle.vault_ledger.proofs.FittingImages.{fits_by, fits_same, whole_sound}
+use Rattle.vault_ledger.proofs.SealedStates.{live_more, stored_none}
+use Rattle.vault_ledger.proofs.SlotPieces.{added_slots}
 use Rattle.vault_ledger.proofs.SpelledPieces.{fit_more}
 
 -- an element of a list of values is one of these
@@ -39,27 +38,10 @@ set_units_stored unit more (set ∷ sets) = at (bytes_eq set.unit unit) (set_uni
     at true rest = refl
     at false rest = ap (λ (l : List (List ℕ)). set.unit ∷ l) rest
 
--- Live slots: those of a unit among more, and new ones of this unit or of another.
+-- Live slots.
 
 abbrev slot_on : List ℕ → NewSegment → LiveSlot
 slot_on unit s = record { unit = unit; segment = s }
-
-live_more : (unit : List ℕ) (live more : List LiveSlot) → live_on unit (live ++ more) ≡ live_on unit live ++ live_on unit more
-live_more unit live more =
-    let test : LiveSlot → Bool = λ s. bytes_eq s.unit unit in
-    ap (λ (l : List LiveSlot). map (λ s. s.segment) l) (filter-append test live more) ∙ map-append (λ (s : LiveSlot). s.segment) (filter test live) (filter test more)
-
-live_own : (unit : List ℕ) (added : List NewSegment) → live_on unit (map (slot_on unit) added) ≡ added
-live_own unit [] = refl
-live_own unit (s ∷ added) =
-    let rest : List LiveSlot = filter (λ t. bytes_eq t.unit unit) (map (slot_on unit) added) in
-    (λ i. map (λ t. t.segment) (cond ((bytes_eq-Decides unit unit).1 refl i) (slot_on unit s ∷ rest) rest)) ∙ ap (λ (l : List NewSegment). s ∷ l) (live_own unit added)
-
-live_other : (unit other : List ℕ) (added : List NewSegment) → bytes_eq unit other ≡ false → live_on other (map (slot_on unit) added) ≡ []
-live_other unit other [] differs = refl
-live_other unit other (s ∷ added) differs =
-    let rest : List LiveSlot = filter (λ t. bytes_eq t.unit other) (map (slot_on unit) added) in
-    (λ i. map (λ t. t.segment) (cond (differs i) (slot_on unit s ∷ rest) rest)) ∙ live_other unit other added differs
 
 -- each new segment is one that its unit may have
 added_so : (size : ℕ) (known added : List NewSegment) → added_fit size known added ≡ true → (s : NewSegment) → Contains added s → (s.slot < slot_limit) × (1 ≤ s.length) × (s.length ≤ size)
@@ -76,15 +58,6 @@ added_so size known (new ∷ added) fits s (zero, lt, is) =
 added_so size known (new ∷ added) fits s (suc k, lt, is) =
     let rest = (and_parts (nat_lt new.slot slot_limit && nat_le 1 new.length && nat_le new.length size && not (has_slot new.slot known)) (added_fit size (known ++ new ∷ []) added) fits).1 in
     added_so size (known ++ new ∷ []) added rest s (k, omega arith, is)
-
--- and none stands in a slot of another
-added_apart : (size : ℕ) (known added : List NewSegment) → AreApart known → added_fit size known added ≡ true → AreApart (known ++ added)
-added_apart size known [] apart fits = subst AreApart (sym (append-nil known)) apart
-added_apart size known (new ∷ added) apart fits =
-    let parts = and_parts (nat_lt new.slot slot_limit && nat_le 1 new.length && nat_le new.length size && not (has_slot new.slot known)) (added_fit size (known ++ new ∷ []) added) fits in
-    let free = not-true (has_slot new.slot known) (and_parts (nat_lt new.slot slot_limit && nat_le 1 new.length && nat_le new.length size) (not (has_slot new.slot known)) parts.0).1 in
-    let more : AreApart (known ++ new ∷ []) = all_pairs_push (λ (a b : NewSegment). a.slot ≢ b.slot) known new apart (λ k d lt same. false≢true (sym free ∙ list_any_at (λ s. s.slot == new.slot) known k d lt (grind (arith, nat_tests, same)))) in
-    subst AreApart (append_assoc known (new ∷ []) added) (added_apart size (known ++ new ∷ []) added more parts.1)
 
 -- Placements.
 
@@ -136,13 +109,13 @@ module _ (l : Ledger) (kept : IsLedger l) (w : WholeImage) (segments : Segments)
   image_so : image_fits old w ≡ true
   image_so = (and_parts (image_fits old w) (segments_fit size (live_on unit l.live) w.length segments) fits).0
 
-  segments_so : (added_fit size (live_on unit l.live) segments.added ≡ true) × (pieces_fit size (live_on unit l.live ++ segments.added) w.length segments.pieces ≡ true)
+  pub segments_so : (added_fit size (live_on unit l.live) segments.added ≡ true) × (pieces_fit size (live_on unit l.live ++ segments.added) w.length segments.pieces ≡ true)
   segments_so = and_parts _ _ (and_parts (image_fits old w) (segments_fit size (live_on unit l.live) w.length segments) fits).1
 
-  here : Fits old entry w.completed
+  pub here : Fits old entry w.completed
   here = fits_by old w image_so
 
-  unit_there : has unit_name unit book.units ≡ true
+  pub unit_there : has unit_name unit book.units ≡ true
   unit_there = (are_sealed book.units (operations_in w.lifecycle w.version book) (rules_hold book kept.shape.sound.site.lifecycles w.lifecycle w.version here.version)).there
 
   -- bytes of this length, whichever, make a sound state of the new outline
@@ -165,7 +138,7 @@ module _ (l : Ledger) (kept : IsLedger l) (w : WholeImage) (segments : Segments)
     images = after.images;
     stored = after.stored;
     listed = entries-with (whole_image before w bytes) kept.shape.images ∙ ap (with_record entry) kept.shape.listed ∙ sym (entries-with outlined old.images);
-    units = set_units_stored unit (pieces size bytes) kept.shape.stored ∙ kept.shape.units ∙ sym (set_units_stored unit [] old.stored);
+    units = set_units_stored unit (pieces size bytes) kept.shape.stored ∙ kept.shape.units ∙ ap set_units (sym (stored_none unit old.stored));
     sound = after_sound;
   }
 
@@ -178,13 +151,19 @@ module _ (l : Ledger) (kept : IsLedger l) (w : WholeImage) (segments : Segments)
       subst (λ (t : LiveSlot). IsLive new.outline t) found.2 (record { unit = unit_there; slot = so.0; some = so.1; size = so.2 }))
       (Contains-append_cases l.live more s among)
 
-  apart_new : (other : List ℕ) → AreApart (live_on other new.live)
-  apart_new other = subst AreApart (sym (live_more other l.live more)) (at (bytes_eq unit other) refl)
+  -- those that are new there
+  abbrev newly : List ℕ → List NewSegment
+  newly other = if bytes_eq unit other then segments.added else []
+
+  live_now : (other : List ℕ) → live_on other new.live ≡ live_on other l.live ++ newly other
+  live_now other = live_more unit segments.added (bytes_eq unit other) other refl l.live
+
+  slots_new : (other : List ℕ) → AreSlots (live_on other new.live)
+  slots_new other = subst AreSlots (sym (live_now other)) (at (bytes_eq unit other) refl)
     where
-      at : (b : Bool) → bytes_eq unit other ≡ b → AreApart (live_on other l.live ++ live_on other more)
-      at true same = subst (λ (name : List ℕ). AreApart (live_on name l.live ++ live_on name more)) (text_is unit other same)
-          (subst (λ (added : List NewSegment). AreApart (live_on unit l.live ++ added)) (sym (live_own unit segments.added)) (added_apart size (live_on unit l.live) segments.added (kept.apart unit) segments_so.0))
-      at false differs = subst (λ (added : List NewSegment). AreApart (live_on other l.live ++ added)) (sym (live_other unit other segments.added differs)) (subst AreApart (sym (append-nil (live_on other l.live))) (kept.apart other))
+      at : (b : Bool) → bytes_eq unit other ≡ b → AreSlots (live_on other l.live ++ (if b then segments.added else []))
+      at true same = subst (λ (name : List ℕ). AreSlots (live_on name l.live ++ segments.added)) (text_is unit other same) (added_slots size (live_on unit l.live) segments.added (kept.slots unit) segments_so.0)
+      at false differs = subst AreSlots (sym (append-nil (live_on other l.live))) (kept.slots other)
 
   -- the other images' pieces are where they were
   placed_still : (image : Image) → Contains old.images image → IsPlaced new image.entry
@@ -196,9 +175,9 @@ module _ (l : Ledger) (kept : IsLedger l) (w : WholeImage) (segments : Segments)
         copy = was.copy;
         only = was.only;
         unit = was.unit;
-        pieces = ap (λ (known : List NewSegment). pieces_fit segment known image.entry.length (slots_of id was.copy.number new.placements)) (live_more was.copy.unit l.live more)
-            ∙ ap (λ (slots : List ℕ). pieces_fit segment (live_on was.copy.unit l.live ++ live_on was.copy.unit more) image.entry.length slots) (slots_other (record { id = w.id; copy = 1; unit = unit; slots = segments.pieces }) id was.copy.number l.placements (other_id w.id old.images image here.fresh among))
-            ∙ fit_more segment (live_on was.copy.unit l.live) (live_on was.copy.unit more) image.entry.length (slots_of id was.copy.number l.placements) was.pieces;
+        pieces = ap (λ (known : List NewSegment). pieces_fit segment known image.entry.length (slots_of id was.copy.number new.placements)) (live_now was.copy.unit)
+            ∙ ap (λ (slots : List ℕ). pieces_fit segment (live_on was.copy.unit l.live ++ newly was.copy.unit) image.entry.length slots) (slots_other (record { id = w.id; copy = 1; unit = unit; slots = segments.pieces }) id was.copy.number l.placements (other_id w.id old.images image here.fresh among))
+            ∙ fit_more segment (live_on was.copy.unit l.live) (newly was.copy.unit) image.entry.length (slots_of id was.copy.number l.placements) was.pieces;
       }
 
   placed_new : IsPlaced new entry
@@ -206,7 +185,7 @@ module _ (l : Ledger) (kept : IsLedger l) (w : WholeImage) (segments : Segments)
     copy = record { number = 1; unit = unit; completed = w.completed; expiry = expiry.Rule };
     only = refl;
     unit = unit_there;
-    pieces = ap (λ (known : List NewSegment). pieces_fit size known w.length (slots_of w.id 1 new.placements)) (live_more unit l.live more ∙ ap (λ (added : List NewSegment). live_on unit l.live ++ added) (live_own unit segments.added))
+    pieces = ap (λ (known : List NewSegment). pieces_fit size known w.length (slots_of w.id 1 new.placements)) (live_more unit segments.added true unit ((bytes_eq-Decides unit unit).1 refl) l.live)
         ∙ ap (λ (slots : List ℕ). pieces_fit size (live_on unit l.live ++ segments.added) w.length slots) (slots_own (record { id = w.id; copy = 1; unit = unit; slots = segments.pieces }) l.placements)
         ∙ segments_so.1;
   }
@@ -215,8 +194,9 @@ module _ (l : Ledger) (kept : IsLedger l) (w : WholeImage) (segments : Segments)
   backup_kept = record {
     shape = shape_new;
     no_bytes = each-with (λ (i : Image). i.bytes ≡ []) outlined old.images refl kept.no_bytes;
-    no_pieces = each_stored unit [] (λ (set : Stored). set.pieces ≡ []) old.stored (λ set is none. none) kept.no_pieces;
+    no_pieces = subst (λ (sets : List Stored). (set : Stored) → Contains sets set → set.pieces ≡ []) (sym (stored_none unit old.stored)) kept.no_pieces;
+    sets = subst AreApart (sym (stored_none unit old.stored)) kept.sets;
     live = live_new;
-    apart = apart_new;
+    slots = slots_new;
     images = each-with (λ (i : Image). IsPlaced new i.entry) outlined old.images placed_new placed_still;
   }

@@ -80,3 +80,10 @@ module _ (l : Ledger) (kept : IsLedger l) where
       nothing : (known : List NewSegment) → ((s : NewSegment) → Contains known s → ⊥) → known ≡ []
       nothing [] never = refl
       nothing (s ∷ known) never = absurd (never s (zero, omega arith, refl))
+
+  -- its segments have some bytes
+  pub some_segment : (unit : List ℕ) → has unit_name unit units ≡ true → 1 ≤ segment_of unit l.outline
+  some_segment unit there =
+      let u = some_named unit_name unit units there in
+      let sized = (kept.shape.sound.site.units u.0 (found_named unit_name unit units u.0 u.1).1).segment.0 in
+      subst (λ (v : StorageUnit). 1 ≤ v.segment) (sym (ap (λ (o : Option StorageUnit). unwrap_or o disk0) u.1)) (omega (arith, sized))

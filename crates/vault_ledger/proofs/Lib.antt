@@ -2,13 +2,7 @@ pub mod UnitPlaces
 pub mod SettledLines
 pub mod SpelledPieces
 pub mod FittingImages
-pub mod KeptSettings
-pub mod KeptBackups
-pub mod JournalLedgers
 pub mod LedgerUnits
-pub mod SoundLedgers
-pub mod Frames
-pub mod PoolFrames
 pub mod Lacking
 pub mod Spelling
 pub mod SlotPieces
@@ -18,3 +12,10 @@ pub mod LiveSlots
 pub mod Adoptions
 pub mod Kept
 pub mod KeptLedgers
+pub mod KeptSettings
+pub mod KeptBackups
+pub mod JournalLedgers
+pub mod SoundLedgers
+pub mod Frames
+pub mod PoolFrames
+pub mod LedgerStates

@@ -1,6 +1,6 @@
 -- The ledger with a backup more stands for the state after the backup.
-use Rattle.std.proofs.Common.{◌≡◌, ◌≢◌, ◌∙◌, ℕ, suc, Bool, true, false, List, [], ◌∷◌, ◌++◌, length, refl, sym, ap, subst, arith}
-use Rattle.std.specs.Prelude.{map, filter, find, if◌then◌else◌, ◌==◌, ◌&&◌, ◌||◌, Option, Some, None, Contains}
+use Rattle.std.proofs.Common.{◌≡◌, ◌≢◌, ◌∙◌, ℕ, suc, Bool, true, false, List, [], ◌∷◌, ◌++◌, refl, sym, ap, subst, arith}
+use Rattle.std.specs.Prelude.{map, filter, find, if◌then◌else◌, ◌==◌, ◌&&◌, ◌||◌, Some, Contains}
 use Rattle.std.specs.Option.{option_map_or}
 use Rattle.std.specs.Str.{bytes_eq}
 use Rattle.std.proofs.lemmas.List.{map-append}
@@ -15,19 +15,15 @@ use Rattle.pool_journal.specs.declared.entry.WholeImage.{WholeImage}
 use Rattle.pool_journal.specs.declared.segments.NewSegment.{NewSegment}
 use Rattle.pool_journal.specs.declared.segments.Segments.{Segments}
 use Rattle.image_catalogue.specs.Images.{is_before, same_id}
-use Rattle.desk_model.specs.State.{State, Image, Stored, with_image, with_stored, has_image}
+use Rattle.desk_model.specs.State.{Image, Stored, with_image, with_stored, has_image}
 use Rattle.desk_model.specs.Pieces.{pieces, with_pieces}
 use Rattle.desk_model.specs.Backups.{sealed}
 use Rattle.desk_model.proofs.ImageLists.{same_is, same_self}
 use Rattle.copy_fragments.specs.Placings.{lacking}
 use Rattle.vault_ledger.specs.Fitting.{whole_entry, whole_unit}
 use Rattle.vault_ledger.specs.Ledger.{Ledger, LiveSlot, Placement, bytes_by, image_over, live_on, piece_in, pieces_on, pool_file, segment_of, set_over, slots_of, spelled, state_over, with_backup}
+use Rattle.vault_ledger.specs.Wellformed.{AreApart}
 use Rattle.vault_ledger.proofs.Lacking.{with_lacking}
-
--- no two sets are of one unit
-abbrev pub AreApart : List Stored → Type 0
-AreApart [] = Unit {0}
-AreApart (set ∷ sets) = ((other : Stored) → Contains sets other → other.unit ≢ set.unit) × AreApart sets
 
 -- The live slots.
 
@@ -45,7 +41,7 @@ module _ (unit : List ℕ) (added : List NewSegment) where
       ap (λ (d : Bool). map (λ (x : LiveSlot). x.segment) (if d then lives s ∷ filter (λ x. bytes_eq x.unit other) (map lives more) else filter (λ x. bytes_eq x.unit other) (map lives more))) is
       ∙ kept_all false other is more
 
-  live_more : (b : Bool) (other : List ℕ) → bytes_eq unit other ≡ b → (live : List LiveSlot) → live_on other (live ++ map lives added) ≡ live_on other live ++ (if b then added else [])
+  pub live_more : (b : Bool) (other : List ℕ) → bytes_eq unit other ≡ b → (live : List LiveSlot) → live_on other (live ++ map lives added) ≡ live_on other live ++ (if b then added else [])
   live_more b other is live =
       ap (λ (l : List LiveSlot). map (λ (x : LiveSlot). x.segment) l) (filter-append (λ (x : LiveSlot). bytes_eq x.unit other) live (map lives added))
       ∙ map-append (λ (x : LiveSlot). x.segment) (filter (λ (x : LiveSlot). bytes_eq x.unit other) live) (filter (λ (x : LiveSlot). bytes_eq x.unit other) (map lives added))
@@ -70,7 +66,7 @@ append_nil [] = refl
 append_nil (x ∷ xs) = ap (λ (l : List _). x ∷ l) (append_nil xs)
 
 -- a set that gets nothing is as it was
-stored_none : (unit : List ℕ) (sets : List Stored) → with_stored unit [] sets ≡ sets
+pub stored_none : (unit : List ℕ) (sets : List Stored) → with_stored unit [] sets ≡ sets
 stored_none unit [] = refl
 stored_none unit (set ∷ sets) = at (stored_none unit sets) (bytes_eq set.unit unit)
   where
@@ -171,7 +167,7 @@ module _ (c : DiskImage) (l : Ledger) (w : WholeImage) (segments : Segments) whe
             let here = same_set set (other_units set (λ is. false≢true (sym differs ∙ (bytes_eq-Decides set.unit unit).1 is))) in
             λ j. here j ∷ rest j
 
-    sealed_state : AreApart l.outline.stored → has_image w.id l.outline.images ≡ false → spelled file size w.length segments.pieces ≡ bytes
+    pub sealed_state : AreApart l.outline.stored → has_image w.id l.outline.images ≡ false → spelled file size w.length segments.pieces ≡ bytes
         → state_over c after ≡ sealed (record { entry = entry; bytes = bytes }) unit (state_over c l)
     sealed_state apart lacking_id spells =
         let placed : map (image_over c after) after.outline.images ≡ with_image (record { entry = entry; bytes = bytes }) (map (image_over c l) l.outline.images) =

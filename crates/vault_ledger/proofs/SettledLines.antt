@@ -6,7 +6,7 @@ use Rattle.site_types.proofs.OptionLemmas.{guarded, chained}
 use Rattle.desk_model.proofs.Asking.{Asks, line_asks}
 use Rattle.vault_ledger.specs.Fitting.{is_settled, settled_as, settled_by}
 
-none_there : {A : Type 0} (o : Option A) → is_none o ≡ true → o ≡ None
+pub none_there : {A : Type 0} (o : Option A) → is_none o ≡ true → o ≡ None
 none_there None is = refl
 none_there (Some x) is = absurd (false≢true is)
 

@@ -1,6 +1,6 @@
 -- The pieces of live slots: which a slot has, and that no other has the same.
-use Rattle.std.proofs.Common.{◌≡◌, ◌∙◌, ◌≤◌, ◌<◌, ◌+◌, ◌-◌, ◌*◌, ℕ, zero, suc, Bool, true, false, List, [], ◌∷◌, ◌++◌, length, take, drop, min, refl, sym, ap, subst, arith}
-use Rattle.std.specs.Prelude.{map, find, if◌then◌else◌, ◌==◌, ◌&&◌, ◌||◌, nat_le, nat_lt, not, Option, Some, None, Contains}
+use Rattle.std.proofs.Common.{◌≡◌, ◌∙◌, ◌≤◌, ◌-◌, ◌*◌, ℕ, zero, suc, Bool, true, false, List, [], ◌∷◌, ◌++◌, length, take, drop, min, refl, sym, ap, subst, arith}
+use Rattle.std.specs.Prelude.{map, find, if◌then◌else◌, ◌==◌, ◌&&◌, ◌||◌, nat_le, nat_lt, not, Option, Some, Contains}
 use Rattle.std.specs.List.{All, list_any}
 use Rattle.std.specs.Option.{option_map_or}
 use Rattle.std.specs.Str.{bytes_eq}
@@ -14,13 +14,9 @@ use Rattle.desk_model.specs.Pieces.{pieces}
 use Rattle.copy_fragments.specs.Placings.{lacking}
 use Rattle.vault_ledger.specs.Ledger.{added_fit, are_distinct, are_whole, has_piece, has_slot, is_whole, piece_in, pieces_fit, slot_limit, spelled}
 use Rattle.vault_ledger.specs.Pools.{slots_in, unrecorded}
+use Rattle.vault_ledger.specs.Wellformed.{AreSlots}
 use Rattle.vault_ledger.proofs.Lacking.{lacking_slots}
 use Rattle.vault_ledger.proofs.Spelling.{AreFull, cuts, spelled_pieces}
-
--- no two segments have one slot
-abbrev pub AreSlots : List NewSegment → Type 0
-AreSlots [] = Unit {0}
-AreSlots (s ∷ more) = (has_slot s.slot more ≡ false) × AreSlots more
 
 -- the segment of a slot
 abbrev pub segment_at : List NewSegment → ℕ → Option NewSegment

@@ -30,7 +30,7 @@ distinct_all (piece ∷ more) apart =
 -- The state of a ledger with the pools' bytes: its catalogue and the units of its sets are the outline's.
 
 module _ (c : DiskImage) (l : Ledger) where
-  entries_over : (images : List Image) → entries (map (image_over c l) images) ≡ entries images
+  pub entries_over : (images : List Image) → entries (map (image_over c l) images) ≡ entries images
   entries_over [] = refl
   entries_over (image ∷ images) = ap (λ (es : List ImageRecord). image.entry ∷ es) (entries_over images)
 
