@@ -43,7 +43,8 @@ use Rattle.site_desk.specs.declared.extents.Extent.{Extent}
 use Rattle.site_desk.specs.declared.index.Index.{Index}
 use Rattle.site_desk.proofs.IndexLemmas.{remembers_more}
 use Rattle.site_desk.proofs.Refusing.{first_plain, refused_as, sized_seen}
-use Rattle.site_desk.proofs.SoundImages.{backup_applies, fits_by, taken}
+use Rattle.vault_ledger.proofs.FittingImages.{fits_by}
+use Rattle.site_desk.proofs.SoundImages.{backup_applies, taken}
 use Rattle.site_desk.proofs.SoundIndex.{fits_same}
 use Rattle.site_desk.proofs.Deciding.{Decided, decided_on, decided_seen, plain_shown, refused_so, some_so, none_so, passed_so, step_so}
 

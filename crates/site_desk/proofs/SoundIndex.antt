@@ -37,7 +37,7 @@ use Rattle.site_desk.specs.declared.index.Index.{Index}
 use Rattle.site_desk.proofs.Deciding.{Decided, decided_on}
 use Rattle.site_desk.proofs.ReplayLemmas.{has_room}
 use Rattle.site_desk.proofs.SiteChanges.{change_so, none_of, passes}
-use Rattle.site_desk.proofs.SoundImages.{fits_by, whole_sound}
+use Rattle.vault_ledger.proofs.FittingImages.{fits_by, whole_sound}
 
 -- the same site and the same records
 pub sound_still : (site site' : Site) (records records' : List ImageRecord) → site' ≡ site → records' ≡ records → ∥ SoundState site records ∥₁ → ∥ SoundState site' records' ∥₁

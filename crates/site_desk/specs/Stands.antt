@@ -1,28 +1,15 @@
 -- What an image of a disk stands for.
-use Rattle.std.specs.Prelude.{◌≡◌, ◌⊎◌, ℕ, Bool, true, ◌&&◌, ◌||◌, not, nat_le, nat_lt, is_none, is_some, if◌then◌else◌, List, [], ◌∷◌, length, Option, Some, None, option_and_then, Result, Ok, Err}
+use Rattle.std.specs.Prelude.{◌≡◌, ◌⊎◌, ℕ, if◌then◌else◌, List, [], ◌∷◌, Option, Some, None, Result, Ok, Err}
 use Rattle.std.specs.Result.{result_ok}
-use Rattle.std.specs.Str.{bytes_eq}
-use Rattle.site_types.specs.declared.image.Base.{Base}
-use Rattle.site_types.specs.declared.image.Base.TheVariants as base
 use Rattle.vault_disk.specs.Disk.{Disk, Image as DiskImage, During}
 use Rattle.pool_journal.specs.declared.entry.Entry.{Entry}
 use Rattle.pool_journal.specs.declared.entry.Entry.TheVariants as entry
-use Rattle.pool_journal.specs.declared.entry.WholeImage.{WholeImage}
 use Rattle.pool_journal.specs.Entries.{Record}
 use Rattle.pool_journal.specs.Records.{Found, Reading, found, broken, foreign, reading}
 use Rattle.pool_journal.specs.Stops.{OpensTo}
-use Rattle.site_types.specs.Limits.{last_moment}
-use Rattle.site_types.specs.Lines.{line_of, read_line}
-use Rattle.site_types.specs.declared.image.ImageRecord.{ImageRecord}
-use Rattle.site_types.specs.declared.request.Request.{Request}
-use Rattle.slp_tree.specs.Lifecycles.{version_named}
-use Rattle.policy_book.specs.Lists.{has}
-use Rattle.policy_book.specs.Book.{Book, policy_name, client_limit}
-use Rattle.desk_model.specs.State.{State, Image, initial, durable, has_image}
-use Rattle.desk_model.specs.Pieces.{piece_count, piece_limit}
-use Rattle.desk_model.specs.Refusals.{first_refusal}
-use Rattle.desk_model.specs.Backups.{image_limit, takes_all, is_known, operations_in, unit_at, unit_of, sealed_entry, sealed}
-use Rattle.desk_model.specs.Settings.{is_setting, setting_refusals, set_by}
+use Rattle.vault_ledger.specs.Fitting.{image_fits, settled, whole_image, whole_unit}
+use Rattle.desk_model.specs.State.{State, initial, durable}
+use Rattle.desk_model.specs.Backups.{sealed}
 
 -- the state after one record, where it fits; one of segments fits in no state, until there are pools that hold them
 abbrev pub apply_entry : State → Entry → List ℕ → Option State
