@@ -1,14 +1,15 @@
 use crate::trial::{SIZE, Trial, Zeros};
-use copy_fragments::{CopyMap, piece_count};
+use copy_fragments::{CopyFault, CopyMap, piece_count};
 use segment_pool::{PoolFault, ReadTrouble, Sha256Print, cut};
 use std::alloc::Global;
 use std::test::*;
+use vault_disk::Vault;
 
 const X: &[u8] = b"xxxxxxxxxxxxxxxx";
 
 const Y: &[u8] = b"yyyyyyyyyyyyyyyy";
 
-// SHA-256 of `hello`, of `world` and of `hell`, as sha256sum prints them.
+// SHA-256 of `hello`, of `world`, of `hell` and of `hallo`, as sha256sum prints them.
 const HELLO: [u8; 32] = [
     0x2c, 0xf2, 0x4d, 0xba, 0x5f, 0xb0, 0xa3, 0x0e, 0x26, 0xe8, 0x3b, 0x2a, 0xc5, 0xb9, 0xe2, 0x9e,
     0x1b, 0x16, 0x1e, 0x5c, 0x1f, 0xa7, 0x42, 0x5e, 0x73, 0x04, 0x33, 0x62, 0x93, 0x8b, 0x98, 0x24,
@@ -22,6 +23,10 @@ const WORLD: [u8; 32] = [
 const HELL: [u8; 32] = [
     0x0e, 0xbd, 0xc3, 0x31, 0x7b, 0x75, 0x83, 0x9f, 0x64, 0x33, 0x87, 0xd7, 0x83, 0x53, 0x5a, 0xdc,
     0x36, 0x0c, 0xa0, 0x1f, 0x33, 0xc7, 0x5f, 0x7c, 0x1e, 0x73, 0x73, 0xad, 0xcd, 0x67, 0x5c, 0x0b,
+];
+const HALLO: [u8; 32] = [
+    0xd3, 0x75, 0x1d, 0x33, 0xf9, 0xcd, 0x50, 0x49, 0xc4, 0xaf, 0x2b, 0x46, 0x27, 0x35, 0x45, 0x7e,
+    0x4d, 0x3b, 0xaf, 0x13, 0x0b, 0xcb, 0xb8, 0x7f, 0x38, 0x9e, 0x34, 0x9f, 0xba, 0xeb, 0x20, 0xb9,
 ];
 
 #[test]
@@ -209,5 +214,101 @@ fn bytes_with_too_many_new_pieces_are_refused(rt: HostRuntime) -> Result<(), Fai
     );
     assert!(rt; matches!(answer, Some(Err(PoolFault::Full { count: 2 }))));
     assert!(rt; trial.pool.end() == 0);
+    Ok(())
+}
+
+// A copy whose last piece is `hello`, at offset 16 of the pool's file.
+fn copy_of_two_pieces(alloc: Global, trial: &mut Trial<Sha256Print>) -> Result<CopyMap, Fail> {
+    copy_of(alloc, trial, b"xxxxxxxxxxxxxxxxhello")
+}
+
+fn reads_all_as(
+    alloc: Global,
+    trial: &mut Trial<Sha256Print>,
+    copy: &CopyMap,
+    bytes: &[u8],
+) -> bool {
+    copy.is_held(&trial.pool)
+        && match copy.read_all(alloc, &mut trial.pool, &mut trial.machine) {
+            Ok(read) => read.as_slice() == bytes,
+            Err(_) => false,
+        }
+}
+
+fn is_verified(trial: &mut Trial<Sha256Print>, copy: &CopyMap) -> bool {
+    copy.is_held(&trial.pool) && copy.verify(&mut trial.pool, &mut trial.machine).is_ok()
+}
+
+// The digests of the damaged piece that a read of all tells.
+fn damage_read(
+    alloc: Global,
+    trial: &mut Trial<Sha256Print>,
+    copy: &CopyMap,
+) -> Option<([u8; 32], [u8; 32])> {
+    if !copy.is_held(&trial.pool) {
+        return None;
+    }
+    match copy.read_all(alloc, &mut trial.pool, &mut trial.machine) {
+        Err(CopyFault::Damaged { recorded, found }) => Some((recorded, found)),
+        _ => None,
+    }
+}
+
+// Those of the first damaged piece of a copy.
+fn damage_found(trial: &mut Trial<Sha256Print>, copy: &CopyMap) -> Option<([u8; 32], [u8; 32])> {
+    if !copy.is_held(&trial.pool) {
+        return None;
+    }
+    match copy.verify(&mut trial.pool, &mut trial.machine) {
+        Err(ReadTrouble::Damaged { recorded, found }) => Some((recorded, found)),
+        _ => None,
+    }
+}
+
+#[test]
+fn a_whole_copy_is_read_back(rt: HostRuntime) -> Result<(), Fail> {
+    let mut trial = Trial::new(rt.alloc(), b"", Sha256Print)?;
+    let copy = copy_of(rt.alloc(), &mut trial, b"hello")?;
+    assert!(rt; reads_all_as(rt.alloc(), &mut trial, &copy, b"hello"));
+    let longer = copy_of_two_pieces(rt.alloc(), &mut trial)?;
+    assert!(rt; reads_all_as(rt.alloc(), &mut trial, &longer, b"xxxxxxxxxxxxxxxxhello"));
+    let empty = copy_of(rt.alloc(), &mut trial, b"")?;
+    assert!(rt; reads_all_as(rt.alloc(), &mut trial, &empty, b""));
+    Ok(())
+}
+
+#[test]
+fn a_whole_copy_is_verified(rt: HostRuntime) -> Result<(), Fail> {
+    let mut trial = Trial::new(rt.alloc(), b"", Sha256Print)?;
+    let copy = copy_of_two_pieces(rt.alloc(), &mut trial)?;
+    assert!(rt; is_verified(&mut trial, &copy));
+    let empty = copy_of(rt.alloc(), &mut trial, b"")?;
+    assert!(rt; is_verified(&mut trial, &empty));
+    Ok(())
+}
+
+#[test]
+fn an_altered_byte_is_damage(rt: HostRuntime) -> Result<(), Fail> {
+    let mut trial = Trial::new(rt.alloc(), b"", Sha256Print)?;
+    let copy = copy_of_two_pieces(rt.alloc(), &mut trial)?;
+    assert!(rt; trial.machine.write_at(2, 17, b"a").is_ok());
+    assert_eq!(rt;
+        damage_read(rt.alloc(), &mut trial, &copy),
+        Some((HELLO, HALLO))
+    );
+    assert_eq!(rt; damage_found(&mut trial, &copy), Some((HELLO, HALLO)));
+    Ok(())
+}
+
+#[test]
+fn a_file_cut_short_is_damage(rt: HostRuntime) -> Result<(), Fail> {
+    let mut trial = Trial::new(rt.alloc(), b"", Sha256Print)?;
+    let copy = copy_of_two_pieces(rt.alloc(), &mut trial)?;
+    assert!(rt; trial.machine.cut(2, 20).is_ok());
+    assert_eq!(rt;
+        damage_read(rt.alloc(), &mut trial, &copy),
+        Some((HELLO, HELL))
+    );
+    assert_eq!(rt; damage_found(&mut trial, &copy), Some((HELLO, HELL)));
     Ok(())
 }
