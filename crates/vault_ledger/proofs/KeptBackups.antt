@@ -41,21 +41,21 @@ set_units_stored unit more (set ∷ sets) = at (bytes_eq set.unit unit) (set_uni
 
 -- Live slots: those of a unit among more, and new ones of this unit or of another.
 
-abbrev slot_on : List ℕ → NewSegment → LiveSlot
+abbrev pub slot_on : List ℕ → NewSegment → LiveSlot
 slot_on unit s = record { unit = unit; segment = s }
 
-live_more : (unit : List ℕ) (live more : List LiveSlot) → live_on unit (live ++ more) ≡ live_on unit live ++ live_on unit more
+pub live_more : (unit : List ℕ) (live more : List LiveSlot) → live_on unit (live ++ more) ≡ live_on unit live ++ live_on unit more
 live_more unit live more =
     let test : LiveSlot → Bool = λ s. bytes_eq s.unit unit in
     ap (λ (l : List LiveSlot). map (λ s. s.segment) l) (filter-append test live more) ∙ map-append (λ (s : LiveSlot). s.segment) (filter test live) (filter test more)
 
-live_own : (unit : List ℕ) (added : List NewSegment) → live_on unit (map (slot_on unit) added) ≡ added
+pub live_own : (unit : List ℕ) (added : List NewSegment) → live_on unit (map (slot_on unit) added) ≡ added
 live_own unit [] = refl
 live_own unit (s ∷ added) =
     let rest : List LiveSlot = filter (λ t. bytes_eq t.unit unit) (map (slot_on unit) added) in
     (λ i. map (λ t. t.segment) (cond ((bytes_eq-Decides unit unit).1 refl i) (slot_on unit s ∷ rest) rest)) ∙ ap (λ (l : List NewSegment). s ∷ l) (live_own unit added)
 
-live_other : (unit other : List ℕ) (added : List NewSegment) → bytes_eq unit other ≡ false → live_on other (map (slot_on unit) added) ≡ []
+pub live_other : (unit other : List ℕ) (added : List NewSegment) → bytes_eq unit other ≡ false → live_on other (map (slot_on unit) added) ≡ []
 live_other unit other [] differs = refl
 live_other unit other (s ∷ added) differs =
     let rest : List LiveSlot = filter (λ t. bytes_eq t.unit other) (map (slot_on unit) added) in
@@ -88,17 +88,17 @@ added_apart size known (new ∷ added) apart fits =
 
 -- Placements.
 
-slots_own : (new : Placement) (placements : List Placement) → slots_of new.id new.copy (new ∷ placements) ≡ new.slots
+pub slots_own : (new : Placement) (placements : List Placement) → slots_of new.id new.copy (new ∷ placements) ≡ new.slots
 slots_own new placements =
     let copy : (new.copy == new.copy) ≡ true = grind (arith, nat_tests) in
     λ i. option_map_or (λ (p : Placement). p.slots) (cond (same_self new.id i && copy i) (Some new) (find (λ p. same_id p.id new.id && p.copy == new.copy) placements)) []
 
-slots_other : (new : Placement) (id : BackupId) (copy : ℕ) (placements : List Placement) → same_id new.id id ≡ false → slots_of id copy (new ∷ placements) ≡ slots_of id copy placements
+pub slots_other : (new : Placement) (id : BackupId) (copy : ℕ) (placements : List Placement) → same_id new.id id ≡ false → slots_of id copy (new ∷ placements) ≡ slots_of id copy placements
 slots_other new id copy placements differs =
     λ i. option_map_or (λ (p : Placement). p.slots) (cond (differs i && (new.copy == copy)) (Some new) (find (λ p. same_id p.id id && p.copy == copy) placements)) []
 
 -- an id that isn't there is no image's
-other_id : (id : BackupId) (images : List Image) (image : Image) → has_image id images ≡ false → Contains images image → same_id id image.entry.id ≡ false
+pub other_id : (id : BackupId) (images : List Image) (image : Image) → has_image id images ≡ false → Contains images image → same_id id image.entry.id ≡ false
 other_id id images image fresh (k, lt, is) = at (same_id id image.entry.id) refl
   where
     at : (b : Bool) → same_id id image.entry.id ≡ b → b ≡ false
@@ -133,16 +133,16 @@ module _ (l : Ledger) (kept : IsLedger l) (w : WholeImage) (segments : Segments)
   abbrev outlined : Image
   outlined = record { entry = entry; bytes = [] }
 
-  image_so : image_fits old w ≡ true
+  pub image_so : image_fits old w ≡ true
   image_so = (and_parts (image_fits old w) (segments_fit size (live_on unit l.live) w.length segments) fits).0
 
-  segments_so : (added_fit size (live_on unit l.live) segments.added ≡ true) × (pieces_fit size (live_on unit l.live ++ segments.added) w.length segments.pieces ≡ true)
+  pub segments_so : (added_fit size (live_on unit l.live) segments.added ≡ true) × (pieces_fit size (live_on unit l.live ++ segments.added) w.length segments.pieces ≡ true)
   segments_so = and_parts _ _ (and_parts (image_fits old w) (segments_fit size (live_on unit l.live) w.length segments) fits).1
 
-  here : Fits old entry w.completed
+  pub here : Fits old entry w.completed
   here = fits_by old w image_so
 
-  unit_there : has unit_name unit book.units ≡ true
+  pub unit_there : has unit_name unit book.units ≡ true
   unit_there = (are_sealed book.units (operations_in w.lifecycle w.version book) (rules_hold book kept.shape.sound.site.lifecycles w.lifecycle w.version here.version)).there
 
   -- bytes of this length, whichever, make a sound state of the new outline

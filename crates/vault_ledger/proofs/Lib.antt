@@ -12,3 +12,6 @@ pub mod SlotPieces
 pub mod SealedStates
 pub mod SettledStates
 pub mod KeptLedgers
+pub mod OwnSets
+pub mod TrueUnits
+pub mod SealedLedgers

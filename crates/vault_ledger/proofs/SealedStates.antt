@@ -3,7 +3,7 @@ use Rattle.std.proofs.Common.{◌≡◌, ◌≢◌, ◌∙◌, ℕ, suc, Bool, t
 use Rattle.std.specs.Prelude.{map, filter, find, if◌then◌else◌, ◌==◌, ◌&&◌, ◌||◌, Option, Some, None, Contains}
 use Rattle.std.specs.Option.{option_map_or}
 use Rattle.std.specs.Str.{bytes_eq}
-use Rattle.std.proofs.lemmas.List.{map-append}
+use Rattle.std.proofs.lemmas.List.{append-nil, map-append}
 use Rattle.std.proofs.lemmas.List.Elements.{filter-append}
 use Rattle.std.proofs.lemmas.Bool.{false≢true}
 use Rattle.std.proofs.lemmas.Slice.Eq.{bytes_eq-Decides}
@@ -22,52 +22,13 @@ use Rattle.desk_model.proofs.ImageLists.{same_is, same_self}
 use Rattle.copy_fragments.specs.Placings.{lacking}
 use Rattle.vault_ledger.specs.Fitting.{whole_entry, whole_unit}
 use Rattle.vault_ledger.specs.Ledger.{Ledger, LiveSlot, Placement, bytes_by, image_over, live_on, piece_in, pieces_on, pool_file, segment_of, set_over, slots_of, spelled, state_over, with_backup}
+use Rattle.vault_ledger.proofs.KeptBackups.{live_more, live_other, live_own, other_id, slot_on, slots_other, slots_own}
 use Rattle.vault_ledger.proofs.Lacking.{with_lacking}
 
 -- no two sets are of one unit
 abbrev pub AreApart : List Stored → Type 0
 AreApart [] = Unit {0}
 AreApart (set ∷ sets) = ((other : Stored) → Contains sets other → other.unit ≢ set.unit) × AreApart sets
-
--- The live slots.
-
-module _ (unit : List ℕ) (added : List NewSegment) where
-  abbrev lives : NewSegment → LiveSlot
-  lives s = record { unit = unit; segment = s }
-
-  kept_all : (b : Bool) (other : List ℕ) → bytes_eq unit other ≡ b → (more : List NewSegment) → live_on other (map lives more) ≡ (if b then more else [])
-  kept_all true other is [] = refl
-  kept_all false other is [] = refl
-  kept_all true other is (s ∷ more) =
-      ap (λ (d : Bool). map (λ (x : LiveSlot). x.segment) (if d then lives s ∷ filter (λ x. bytes_eq x.unit other) (map lives more) else filter (λ x. bytes_eq x.unit other) (map lives more))) is
-      ∙ ap (λ (l : List NewSegment). s ∷ l) (kept_all true other is more)
-  kept_all false other is (s ∷ more) =
-      ap (λ (d : Bool). map (λ (x : LiveSlot). x.segment) (if d then lives s ∷ filter (λ x. bytes_eq x.unit other) (map lives more) else filter (λ x. bytes_eq x.unit other) (map lives more))) is
-      ∙ kept_all false other is more
-
-  live_more : (b : Bool) (other : List ℕ) → bytes_eq unit other ≡ b → (live : List LiveSlot) → live_on other (live ++ map lives added) ≡ live_on other live ++ (if b then added else [])
-  live_more b other is live =
-      ap (λ (l : List LiveSlot). map (λ (x : LiveSlot). x.segment) l) (filter-append (λ (x : LiveSlot). bytes_eq x.unit other) live (map lives added))
-      ∙ map-append (λ (x : LiveSlot). x.segment) (filter (λ (x : LiveSlot). bytes_eq x.unit other) live) (filter (λ (x : LiveSlot). bytes_eq x.unit other) (map lives added))
-      ∙ ap (λ (l : List NewSegment). live_on other live ++ l) (kept_all b other is added)
-
-none_of : (a b : Bool) → (a || b) ≡ false → (a ≡ false) × (b ≡ false)
-none_of false false is = (refl, refl)
-none_of true b is = absurd (false≢true (sym is))
-none_of false true is = absurd (false≢true (sym is))
-
-other_id : (a b : BackupId) → same_id a b ≡ false → same_id b a ≡ false
-other_id a b differs = at (same_id b a) refl
-  where
-    at : (d : Bool) → same_id b a ≡ d → d ≡ false
-    at true same =
-        let is : b ≡ a = same_is b a same in
-        absurd (false≢true (sym differs ∙ ap (λ (x : BackupId). same_id a x) is ∙ same_self a))
-    at false is = refl
-
-append_nil : {A : Type 0} (xs : List A) → xs ++ [] ≡ xs
-append_nil [] = refl
-append_nil (x ∷ xs) = ap (λ (l : List _). x ∷ l) (append_nil xs)
 
 -- a set that gets nothing is as it was
 stored_none : (unit : List ℕ) (sets : List Stored) → with_stored unit [] sets ≡ sets
@@ -107,26 +68,22 @@ module _ (c : DiskImage) (l : Ledger) (w : WholeImage) (segments : Segments) whe
 
   -- Images.
 
-  other_slots : (i : ImageRecord) (n : ℕ) → same_id w.id i.id ≡ false → slots_of i.id n after.placements ≡ slots_of i.id n l.placements
-  other_slots i n differs = ap (λ (b : Bool). option_map_or (λ (p : Placement). p.slots) (if b && (1 == n) then Some (record { id = w.id; copy = 1; unit = unit; slots = segments.pieces }) else find (λ p. same_id p.id i.id && p.copy == n) l.placements) []) differs
+  abbrev placement : Placement
+  placement = record { id = w.id; copy = 1; unit = unit; slots = segments.pieces }
 
   other_bytes : (i : ImageRecord) (copies : List CopyRecord) → same_id w.id i.id ≡ false → bytes_by c after i copies ≡ bytes_by c l i copies
   other_bytes i [] differs = refl
-  other_bytes i (copy ∷ copies) differs = ap (λ (slots : List ℕ). spelled (c (pool_file copy.unit l.outline)) (segment_of copy.unit l.outline) i.length slots) (other_slots i copy.number differs)
+  other_bytes i (copy ∷ copies) differs = ap (λ (slots : List ℕ). spelled (c (pool_file copy.unit l.outline)) (segment_of copy.unit l.outline) i.length slots) (slots_other placement i.id copy.number l.placements differs)
 
-  other_images : (images : List Image) → has_image w.id images ≡ false → map (image_over c after) images ≡ map (image_over c l) images
-  other_images [] lacks = refl
-  other_images (i ∷ images) lacks =
-      let parts = none_of (same_id i.entry.id w.id) (has_image w.id images) lacks in
-      let here = other_bytes i.entry i.entry.copies (other_id i.entry.id w.id parts.0) in
-      let later = other_images images parts.1 in
+  other_images : (images : List Image) → ((i : Image) → Contains images i → same_id w.id i.entry.id ≡ false) → map (image_over c after) images ≡ map (image_over c l) images
+  other_images [] differ = refl
+  other_images (i ∷ images) differ =
+      let here = other_bytes i.entry i.entry.copies (differ i (0, omega arith, refl)) in
+      let later = other_images images (λ other among. differ other (suc among.0, omega (arith, among.1), among.2)) in
       λ j. record { entry = i.entry; bytes = here j } ∷ later j
 
-  own_slots : slots_of w.id 1 after.placements ≡ segments.pieces
-  own_slots = ap (λ (b : Bool). option_map_or (λ (p : Placement). p.slots) (if b && true then Some (record { id = w.id; copy = 1; unit = unit; slots = segments.pieces }) else find (λ p. same_id p.id w.id && p.copy == 1) l.placements) []) (same_self w.id)
-
   own_image : (bytes : List ℕ) → spelled file size w.length segments.pieces ≡ bytes → image_over c after (record { entry = entry; bytes = [] }) ≡ record { entry = entry; bytes = bytes }
-  own_image bytes spells = ap (λ (b : List ℕ). record { entry = entry; bytes = b }) (ap (λ (slots : List ℕ). spelled file size w.length slots) own_slots ∙ spells)
+  own_image bytes spells = ap (λ (b : List ℕ). record { entry = entry; bytes = b }) (ap (λ (slots : List ℕ). spelled file size w.length slots) (slots_own placement l.placements) ∙ spells)
 
   -- Sets.
 
@@ -140,7 +97,9 @@ module _ (c : DiskImage) (l : Ledger) (w : WholeImage) (segments : Segments) whe
   same_set : (set : Stored) → bytes_eq unit set.unit ≡ false → set_over c after set ≡ set_over c l set
   same_set set differs =
       ap (λ (segs : List NewSegment). record { unit = set.unit; pieces = map (piece_in (c (pool_file set.unit l.outline)) (segment_of set.unit l.outline)) segs })
-      (live_more unit segments.added false set.unit differs l.live ∙ append_nil (live_on set.unit l.live))
+      (live_more set.unit l.live (map (slot_on unit) segments.added)
+      ∙ ap (λ (added : List NewSegment). live_on set.unit l.live ++ added) (live_other unit set.unit segments.added differs)
+      ∙ append-nil (live_on set.unit l.live))
 
   same_sets : (sets : List Stored) → ((other : Stored) → Contains sets other → other.unit ≢ unit) → map (set_over c after) sets ≡ map (set_over c l) sets
   same_sets [] differ = refl
@@ -152,7 +111,7 @@ module _ (c : DiskImage) (l : Ledger) (w : WholeImage) (segments : Segments) whe
   module _ (bytes : List ℕ) (lacks : lacking (pieces_on c l unit) (pieces size bytes) ≡ map (piece_in file size) segments.added) where
     own_pieces : pieces_on c after unit ≡ with_pieces (pieces_on c l unit) (pieces size bytes)
     own_pieces =
-        ap (map (piece_in file size)) (live_more unit segments.added true unit ((bytes_eq-Decides unit unit).1 refl) l.live)
+        ap (map (piece_in file size)) (live_more unit l.live (map (slot_on unit) segments.added) ∙ ap (λ (added : List NewSegment). live_on unit l.live ++ added) (live_own unit segments.added))
         ∙ map-append (piece_in file size) (live_on unit l.live) segments.added
         ∙ ap (λ (m : List (List ℕ)). pieces_on c l unit ++ m) (sym lacks)
         ∙ sym (with_lacking (pieces_on c l unit) (pieces size bytes))
@@ -171,12 +130,12 @@ module _ (c : DiskImage) (l : Ledger) (w : WholeImage) (segments : Segments) whe
             let here = same_set set (other_units set (λ is. false≢true (sym differs ∙ (bytes_eq-Decides set.unit unit).1 is))) in
             λ j. here j ∷ rest j
 
-    sealed_state : AreApart l.outline.stored → has_image w.id l.outline.images ≡ false → spelled file size w.length segments.pieces ≡ bytes
+    pub sealed_state : AreApart l.outline.stored → has_image w.id l.outline.images ≡ false → spelled file size w.length segments.pieces ≡ bytes
         → state_over c after ≡ sealed (record { entry = entry; bytes = bytes }) unit (state_over c l)
     sealed_state apart lacking_id spells =
         let placed : map (image_over c after) after.outline.images ≡ with_image (record { entry = entry; bytes = bytes }) (map (image_over c l) l.outline.images) =
         placed_by (image_over c after) (λ i. refl) (record { entry = entry; bytes = [] }) l.outline.images
-        ∙ (λ j. with_image (own_image bytes spells j) (other_images l.outline.images lacking_id j)) in
+        ∙ (λ j. with_image (own_image bytes spells j) (other_images l.outline.images (λ i among. other_id w.id l.outline.images i lacking_id among) j)) in
         let sets : map (set_over c after) after.outline.stored ≡ with_stored unit (pieces size bytes) (map (set_over c l) l.outline.stored) =
         ap (map (set_over c after)) (stored_none unit l.outline.stored) ∙ sets_sealed l.outline.stored apart in
         λ j. record (after.outline) { images = placed j; stored = sets j }
