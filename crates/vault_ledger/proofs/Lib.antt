@@ -15,3 +15,4 @@ pub mod KeptLedgers
 pub mod OwnSets
 pub mod TrueUnits
 pub mod SealedLedgers
+pub mod AppendedLedgers
