@@ -18,11 +18,11 @@ stands_for c l reads is_true =
     ap (λ (r : Result Ledger ℕ). option_and_then (state_where c) (result_ok r)) reads
     ∙ ap (λ (b : Bool). if b then Some (state_over c l) else None) is_true
 
--- two images that read as one ledger's journal, of which one has true pools, and whose live slots have the same bytes, stand for the same
-pub stands_too : (c d : DiskImage) (l : Ledger) → journal_reads c ≡ Ok l → journal_reads d ≡ Ok l → are_true d l l.outline.stored ≡ true → ((unit : List ℕ) → pieces_on c l unit ≡ pieces_on d l unit) → stands c ≡ Some (state_over d l)
-stands_too c d l reads reads_too is_true same =
+-- and so does one whose live slots have the bytes of true pools
+pub stands_too : (c d : DiskImage) (l : Ledger) → journal_reads c ≡ Ok l → are_true d l l.outline.stored ≡ true → ((unit : List ℕ) → pieces_on c l unit ≡ pieces_on d l unit) → stands c ≡ Some (state_over d l)
+stands_too c d l reads is_true same =
     stands_for c l reads (true_alike c d l same l.outline.stored ∙ is_true)
-    ∙ ap (λ (s : State). Some s) (over_alike c d l same (journal_kept d l reads_too))
+    ∙ ap (λ (s : State). Some s) (over_alike c d l same (journal_kept c l reads))
 
 module _ (disk : Disk) (end : ℕ) (l : Ledger) (kept : KeptLedger disk end l) where
   pub kept_reads : journal_reads disk.seen ≡ Ok l
@@ -39,7 +39,7 @@ module _ (disk : Disk) (end : ℕ) (l : Ledger) (kept : KeptLedger disk end l) w
   -- and so does each image that a stop may leave
   pub kept_stands : (c : DiskImage) → disk.may_leave c → stands c ≡ Some (state_over disk.seen l)
   kept_stands c left =
-      stands_too c disk.seen l (ap (λ (bytes : List ℕ). ledger_of (reading bytes)) (kept.rest.durable.only c left) ∙ kept_reads) kept_reads kept.is_true (kept.keeps.each c left)
+      stands_too c disk.seen l (ap (λ (bytes : List ℕ). ledger_of (reading bytes)) (kept.rest.durable.only c left) ∙ kept_reads) kept.is_true (kept.keeps.each c left)
 
 -- the journal is at rest on a disk that reads the same of it, where a stop leaves no more than before
 pub rest_still : (old new : Disk) (end : ℕ) (records : List Found) → new.seen 0 ≡ old.seen 0 → ((c : DiskImage) → new.may_leave c → c 0 ≡ old.seen 0) → AtRest old end records → AtRest new end records

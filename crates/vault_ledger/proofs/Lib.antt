@@ -19,3 +19,5 @@ pub mod SoundLedgers
 pub mod Frames
 pub mod PoolFrames
 pub mod LedgerStates
+pub mod TrueUnits
+pub mod AppendedLedgers

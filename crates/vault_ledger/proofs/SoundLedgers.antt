@@ -15,6 +15,7 @@ use Rattle.desk_model.proofs.Restores.{keeps_copies}
 use Rattle.vault_ledger.specs.Ledger.{Ledger, are_distinct, are_true, are_whole, bytes_by, image_over, is_true_unit, journal_reads, live_on, piece_in, pieces_on, pool_file, segment_of, set_over, slots_of, spelled, stands, state_over, state_where}
 use Rattle.vault_ledger.specs.Wellformed.{IsLedger, IsPlaced, set_units}
 use Rattle.vault_ledger.proofs.KeptBackups.{in_mapped}
+use Rattle.vault_ledger.proofs.TrueUnits as pools
 use Rattle.vault_ledger.proofs.SpelledPieces.{spelled_long, spelled_there, whole_at}
 use Rattle.vault_ledger.proofs.JournalLedgers.{journal_kept}
 use Rattle.vault_ledger.proofs.LedgerUnits.{live_sized, own_set, set_there, unit_of_set, units_alike}
@@ -49,11 +50,6 @@ module _ (c : DiskImage) (l : Ledger) where
       at false differs later (suc k, lt, is) = later (k, omega arith, is) same
 
   -- the pool of each set is true
-  true_at : (sets : List Stored) → are_true c l sets ≡ true → (set : Stored) → Contains sets set → is_true_unit c l set.unit ≡ true
-  true_at [] all set (k, lt, is) = absurd (omega arith)
-  true_at (s ∷ sets) all set (zero, lt, is) = ap (λ (t : Stored). is_true_unit c l t.unit) (sym is) ∙ (and_parts (is_true_unit c l s.unit) (are_true c l sets) all).0
-  true_at (s ∷ sets) all set (suc k, lt, is) = true_at sets (and_parts (is_true_unit c l s.unit) (are_true c l sets) all).1 set (k, omega arith, is)
-
   module _ (kept : IsLedger l) (all : are_true c l l.outline.stored ≡ true) where
     abbrev old : State
     old = l.outline
@@ -81,9 +77,7 @@ module _ (c : DiskImage) (l : Ledger) where
 
     -- and so is that of each unit
     pub true_unit : (unit : List ℕ) → has unit_name unit book.units ≡ true → (are_whole (file unit) (segment unit) (known unit) ≡ true) × (are_distinct (pieces_on c l unit) ≡ true)
-    true_unit unit there =
-        let set = set_there l kept unit there in
-        and_parts (are_whole (file unit) (segment unit) (known unit)) (are_distinct (pieces_on c l unit)) (subst (λ (u : List ℕ). is_true_unit c l u ≡ true) set.2 (true_at old.stored all set.0 set.1))
+    true_unit unit there = and_parts (are_whole (file unit) (segment unit) (known unit)) (are_distinct (pieces_on c l unit)) (pools.true_unit c l kept all unit there)
 
     set_sound : (set : Stored) → Contains old.stored set → IsSoundSet book (set_over c l set)
     set_sound set among =
