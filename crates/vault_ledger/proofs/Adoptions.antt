@@ -1,9 +1,9 @@
 -- A pool that takes over what a ledger says, segment by segment and slot by slot.
-use Rattle.std.proofs.Common.{◌≡◌, ◌≢◌, ◌+◌, ◌-◌, ◌<◌, ◌≤◌, ◌^◌, ⊎_elim, ℕ, List, [], ◌∷◌, ◌++◌, length, get_or, take, drop, min, Some, None, true, false, refl, sym, ◌∙◌, ap, subst, append_assoc, arith}
-use Rattle.std.specs.Prelude.{Bool, Option, IsTrue, ◌↔◌, ◌&&◌, ◌==◌, nat_le, nat_lt, not, is_none, Contains}
+use Rattle.std.proofs.Common.{◌≡◌, ◌≢◌, ◌+◌, ◌-◌, ◌<◌, ◌≤◌, ⊎_elim, ℕ, List, [], ◌∷◌, ◌++◌, length, get_or, take, drop, min, Some, None, true, false, refl, sym, ◌∙◌, ap, subst, append_assoc, arith}
+use Rattle.std.specs.Prelude.{Bool, Option, IsTrue, ◌↔◌, ◌&&◌, nat_le, nat_lt, is_none}
 use Rattle.std.proofs.lemmas.Bool.{and_left, and_parts, and_right, cases_eq, le-ltb, lt-ltb, not-true}
 use Rattle.std.proofs.lemmas.Bool.Decides.{same_from_decides}
-use Rattle.std.proofs.lemmas.List.{append-nil, at_drop_all, at_drop_more, take_all, take_more}
+use Rattle.std.proofs.lemmas.List.{at_drop_more, take_more}
 use Rattle.std.proofs.lemmas.List.Elements.{Contains-push_cases}
 use Rattle.segment_pool.specs.Slots.{PoolState, Becomes, held, live_piece}
 use Rattle.segment_pool.specs.declared.slot.Slot.{Slot}
@@ -13,10 +13,6 @@ use Rattle.vault_ledger.specs.Following.{is_new}
 use Rattle.vault_ledger.specs.Ledger.{added_fit, has_piece, has_slot, pieces_fit, slot_limit}
 use Rattle.vault_ledger.specs.Pools.{HoldsLive, IsAdopted, live_slot}
 use Rattle.vault_ledger.proofs.LiveSlots.{held_tells, piece_tells, slot_behind, times_behind, times_push}
-
-pub adopted_if : (known : List NewSegment) (named : List ℕ) (fits answer : Bool) (pool : PoolState) → fits ≡ answer → HoldsLive known named pool → IsAdopted known named fits pool answer
-adopted_if known named fits true pool is h = (is, h)
-adopted_if known named fits false pool is h = is
 
 -- New segments.
 
@@ -58,35 +54,6 @@ pub record AdoptedSoFar (size : ℕ) (known : List NewSegment) (named : List ℕ
   pub holds : HoldsLive (known ++ take i added) named pool
   pub fits : added_fit size known added ≡ added_fit size (known ++ take i added) (drop i added)
 
-module _ (size : ℕ) (known : List NewSegment) (named : List ℕ) (added : List NewSegment) where
-  pub none_adopted : (pool : PoolState) → HoldsLive known named pool → AdoptedSoFar size known named added 0 pool
-  none_adopted pool h = record {
-    holds = subst (λ (l : List NewSegment). HoldsLive l named pool) (sym (append-nil known)) h;
-    fits = ap (λ (l : List NewSegment). added_fit size l added) (sym (append-nil known));
-  }
-
-  module _ (i : ℕ) (old new : PoolState) (s : NewSegment) (lt : i < length added) (is : s ≡ get_or added i s) (far : AdoptedSoFar size known named added i old) where
-    at_segment : added_fit size known added ≡ (is_new size (known ++ take i added) s && added_fit size ((known ++ take i added) ++ s ∷ []) (drop (i + 1) added))
-    at_segment = far.fits ∙ at_drop_more (added_fit size (known ++ take i added)) added i s lt ∙ ap (λ (x : NewSegment). added_fit size (known ++ take i added) (x ∷ drop (i + 1) added)) (sym is)
-
-    one_more : (known ++ take i added) ++ s ∷ [] ≡ known ++ take (i + 1) added
-    one_more = append_assoc known (take i added) (s ∷ []) ∙ ap (λ (l : List NewSegment). known ++ l) (ap (λ (x : NewSegment). take i added ++ x ∷ []) is ∙ sym (take_more added i s lt))
-
-    pub next_adopted : IsAdopted ((known ++ take i added) ++ s ∷ []) named (is_new size (known ++ take i added) s) new true → AdoptedSoFar size known named added (i + 1) new
-    next_adopted done = record {
-      holds = subst (λ (l : List NewSegment). HoldsLive l named new) one_more done.1;
-      fits = at_segment ∙ ap (λ (b : Bool). b && added_fit size ((known ++ take i added) ++ s ∷ []) (drop (i + 1) added)) done.0 ∙ ap (λ (l : List NewSegment). added_fit size l (drop (i + 1) added)) one_more;
-    }
-
-    pub unfit_segment : is_new size (known ++ take i added) s ≡ false → added_fit size known added ≡ false
-    unfit_segment unfit = at_segment ∙ and_left _ _ unfit
-
-  pub all_adopted : (i : ℕ) (pool : PoolState) → length added ≤ i → AdoptedSoFar size known named added i pool → IsAdopted (known ++ added) named (added_fit size known added) pool true
-  all_adopted i pool past far = (
-    far.fits ∙ at_drop_all (added_fit size (known ++ take i added)) added i past,
-    subst (λ (l : List NewSegment). HoldsLive (known ++ l) named pool) (take_all i added past) far.holds,
-  )
-
 -- Slots of pieces.
 
 -- one was counted
@@ -121,9 +88,6 @@ pub record NamedSoFar (size : ℕ) (known : List NewSegment) (named : List ℕ) 
   pub fits : pieces_fit size known n slots ≡ pieces_fit size known rest (drop i slots)
 
 module _ (size : ℕ) (known : List NewSegment) (named : List ℕ) (n : ℕ) (slots : List ℕ) where
-  pub none_named : (pool : PoolState) → HoldsLive known named pool → NamedSoFar size known named n slots 0 n pool
-  none_named pool h = record { holds = subst (λ (l : List ℕ). HoldsLive known l pool) (sym (append-nil named)) h; fits = refl }
-
   module _ (i rest length' rest' : ℕ) (old new : PoolState) (lt : i < length slots) (length_is : length' ≡ min size rest) (rest_is : rest' ≡ rest - size) (far : NamedSoFar size known named n slots i rest old) where
     abbrev slot : ℕ
     slot = get_or slots i 0
@@ -142,8 +106,3 @@ module _ (size : ℕ) (known : List NewSegment) (named : List ℕ) (n : ℕ) (sl
 
     pub unfit_slot : has_piece slot length' known ≡ false → pieces_fit size known n slots ≡ false
     unfit_slot unfit = at_slot ∙ and_left _ _ (and_right _ _ unfit)
-
-  pub all_named : (i rest : ℕ) (pool : PoolState) (answer : Bool) → length slots ≤ i → answer ≡ (rest == 0) → NamedSoFar size known named n slots i rest pool → IsAdopted known (named ++ slots) (pieces_fit size known n slots) pool answer
-  all_named i rest pool answer past is far =
-      adopted_if known (named ++ slots) (pieces_fit size known n slots) answer pool (far.fits ∙ at_drop_all (pieces_fit size known rest) slots i past ∙ sym is)
-          (subst (λ (l : List ℕ). HoldsLive known (named ++ l) pool) (take_all i slots past) far.holds)

@@ -1,20 +1,24 @@
 -- A pool that keeps the slots of a copy, slot by slot.
-use Rattle.std.proofs.Common.{◌≡◌, ◌≢◌, ◌⊎◌, ◌+◌, ◌-◌, ◌<◌, ◌≤◌, ◌^◌, inl, inr, ⊎_elim, ℕ, List, [], ◌∷◌, ◌++◌, length, get_or, take, drop, map, Some, None, true, false, refl, sym, ◌∙◌, ap, subst, append_assoc, zero-add, arith}
-use Rattle.std.specs.Prelude.{Bool, ◌==◌, ◌||◌, Contains}
+use Rattle.std.proofs.Common.{◌≡◌, ◌≢◌, ◌+◌, ◌-◌, ◌<◌, ◌≤◌, ◌^◌, ⊎_elim, ℕ, List, [], ◌∷◌, ◌++◌, length, get_or, take, drop, Some, None, true, false, refl, sym, ◌∙◌, ap, subst, append_assoc, zero-add, arith}
+use Rattle.std.specs.Prelude.{Bool, Option, ◌==◌, ◌||◌, Contains}
 use Rattle.std.specs.List.{list_any}
-use Rattle.std.proofs.lemmas.Bool.{cases_eq, cond-true, cond-false, or_parts}
-use Rattle.std.proofs.lemmas.List.{append-nil, at_drop_all, drop_all, drop_more, map-append, take_all, take_more}
-use Rattle.std.proofs.lemmas.List.Elements.{Contains-append_cases, Contains-push_cases}
+use Rattle.std.proofs.lemmas.Bool.{cases_eq, cases_lt, cond-true, cond-false, or_parts}
+use Rattle.std.proofs.lemmas.List.{append-nil, drop_all, drop_more, map-append, take_all, take_more}
+use Rattle.std.proofs.lemmas.List.Elements.{Contains-push_cases}
 use Rattle.std.proofs.lemmas.List.Folds.{list_any-append}
 use Rattle.segment_pool.specs.Slots.{PoolState, Becomes, count_of, held, made_live, while_held}
 use Rattle.segment_pool.specs.declared.slot.Slot.{Slot}
 use Rattle.copy_fragments.specs.PlacingSteps.{ArePinned}
-use Rattle.copy_fragments.specs.Placings.{times}
+use Rattle.copy_fragments.specs.Placings.{PinnedEach, times}
 use Rattle.pool_journal.specs.declared.segments.NewSegment.{NewSegment}
-use Rattle.vault_ledger.specs.Following.{CountsFit, HoldsNow, IsPlacedOn, IsPlacedSegment, IsSamePool, kept_slot, newly_live}
+use Rattle.vault_ledger.specs.Following.{CountsFit, HoldsNow, IsPlacedSegment, kept_slot, newly_live}
 use Rattle.vault_ledger.specs.Ledger.{has_slot}
 use Rattle.vault_ledger.specs.Pools.{HoldsLive, live_slot, slots_in, unrecorded}
 use Rattle.vault_ledger.proofs.LiveSlots.{found_slot, slot_behind, slot_there, times_behind, times_first, times_past, times_push}
+
+-- the pool held what a ledger says, and then the slots of a copy were pinned
+abbrev pub IsPlacedOn : PoolState → List NewSegment → List ℕ → List ℕ → PoolState → Type 0
+IsPlacedOn before known named slots pool = HoldsLive known named before × PinnedEach before pool slots
 
 -- One slot, as the pool's calls change it.
 
@@ -84,6 +88,17 @@ counts_next old new slot what more n is now n_is fit t = ⊎_elim
     omega (arith, n_is, fit slot, before, after))
     (λ ne. omega (arith, n_is, fit t, ap count_of (now.elsewhere t ne)))
     (cases_eq t slot)
+
+-- pins leave the counts as they were
+pub counts_pinned : (before pool : PoolState) (slots : List ℕ) (more : ℕ) → PinnedEach before pool slots → CountsFit more before → CountsFit more pool
+counts_pinned before pool slots more pinned fit t = at (held before t) refl
+  where
+    at : (o : Option Slot) → held before t ≡ o → count_of (held pool t) + more < 2 ^ 64
+    at (Some what) is = omega (arith, fit t, ap count_of is, ap count_of (pinned.again t what is))
+    at None is = ⊎_elim
+        (λ some. let one = pinned.placed t is some in omega (arith, fit t, ap count_of one.1, cond-false one.0.live one.0.count 0 one.2))
+        (λ none. omega (arith, fit t, ap count_of (pinned.others t is (omega (arith, none)))))
+        (cases_lt 0 (times t slots))
 
 -- The pool between two slots.
 
@@ -195,16 +210,6 @@ pub record KeptSoFar (before start : PoolState) (known : List NewSegment) (named
   pub fits : (s : NewSegment) → Contains added s → IsPlacedSegment before start s
 
 module _ (before start : PoolState) (known : List NewSegment) (named slots : List ℕ) (placed : IsPlacedOn before known named slots start) where
-  none_so_far : KeptSoFar before start known named slots [] slots [] start
-  none_so_far = record {
-    keeping = subst (λ (l : List NewSegment). IsKeeping start l (named ++ []) slots start) (sym (append-nil known)) (subst (λ (l : List ℕ). IsKeeping start known l slots start) (sym (append-nil named)) (keeping_none before start known named slots placed));
-    order = ap (λ (l : List NewSegment). unrecorded (slots_in l) slots) (sym (append-nil known));
-    fits = λ s among. absurd (let lt = among.1 in omega (arith, lt));
-  }
-
-  pub none_kept : (added : List NewSegment) → added ≡ [] → KeptSoFar before start known named slots [] slots added start
-  none_kept added none = subst (λ (l : List NewSegment). KeptSoFar before start known named slots [] slots l start) (sym none) none_so_far
-
   pub all_kept : (i : ℕ) (added : List NewSegment) (pool : PoolState) → length slots ≤ i → KeptSoFar before start known named slots (take i slots) (drop i slots) added pool
       → HoldsLive (known ++ added) (named ++ slots) pool × (slots_in added ≡ unrecorded (slots_in known) slots)
   all_kept i added pool past far =
@@ -248,4 +253,4 @@ module _ (before start : PoolState) (known : List NewSegment) (named slots : Lis
   kept_at i slot added added' old new what lt slot_is is now more far =
       let next : drop i slots ≡ slot ∷ drop (i + 1) slots = drop_more slots i 0 lt ∙ ap (λ (s : ℕ). s ∷ drop (i + 1) slots) (sym slot_is) in
       subst (λ (l : List ℕ). KeptSoFar before start known named slots l (drop (i + 1) slots) added' new) (ap (λ (s : ℕ). take i slots ++ s ∷ []) slot_is ∙ sym (take_more slots i 0 lt))
-          (next_kept slot (take i slots) (drop (i + 1) slots) added old new what is now (subst (λ (l : List ℕ). KeptSoFar before start known named slots (take i slots) l added old) next far) added' more)
+      (next_kept slot (take i slots) (drop (i + 1) slots) added old new what is now (subst (λ (l : List ℕ). KeptSoFar before start known named slots (take i slots) l added old) next far) added' more)

@@ -1,5 +1,5 @@
 -- What a pool that holds a ledger's live slots tells of a slot, and how often a list names one.
-use Rattle.std.proofs.Common.{◌≡◌, ◌≢◌, ◌+◌, ◌<◌, ◌≤◌, ◌^◌, ⊎_elim, ℕ, zero, suc, List, [], ◌∷◌, ◌++◌, length, Some, None, true, false, cond, refl, sym, ◌∙◌, ap, arith}
+use Rattle.std.proofs.Common.{◌≡◌, ◌≢◌, ◌+◌, ◌<◌, ◌^◌, ℕ, List, [], ◌∷◌, ◌++◌, length, Some, true, false, cond, refl, sym, ◌∙◌, ap, arith}
 use Rattle.std.specs.Prelude.{Bool, ◌&&◌, ◌==◌, not, is_none, Contains}
 use Rattle.std.proofs.lemmas.Bool.{eqb-true, eqb-false, eq-eqb, ne_eqb, or_parts, and_parts, and_from, cond-true, cond-false}
 use Rattle.std.specs.Bool.{Decides}
@@ -9,7 +9,7 @@ use Rattle.segment_pool.specs.Slots.{PoolState, count_of, held}
 use Rattle.segment_pool.specs.declared.slot.Slot.{Slot}
 use Rattle.copy_fragments.specs.Placings.{times}
 use Rattle.pool_journal.specs.declared.segments.NewSegment.{NewSegment}
-use Rattle.vault_ledger.specs.Following.{IsSamePool}
+use Rattle.vault_ledger.specs.Following.{CountsFit, IsSamePool}
 use Rattle.vault_ledger.specs.Ledger.{has_piece, has_slot}
 use Rattle.vault_ledger.specs.Pools.{HoldsLive, live_slot}
 
@@ -73,24 +73,24 @@ module _ (known : List NewSegment) (named : List ℕ) (pool : PoolState) (h : Ho
   pub piece_tells : (slot n : ℕ) → Decides (has_piece slot n known) ((what : Slot) × (held pool slot ≡ Some what) × (what.live ≡ true) × (what.length ≡ n))
   piece_tells slot n = (
     λ there.
-    let one = Any-from_list_any (λ (s : NewSegment). (s.slot == slot) && (s.length == n)) known there in
-    let s = one.1 in
-    let tests = and_parts (s.slot == slot) (s.length == n) one.4 in
-    (live_slot s (times s.slot named), ap (λ (k : ℕ). held pool k) (sym (eqb-true s.slot slot tests.0)) ∙ h.here s (one.0, one.2, one.3), refl, eqb-true s.length n tests.1),
+        let one = Any-from_list_any (λ (s : NewSegment). (s.slot == slot) && (s.length == n)) known there in
+        let s = one.1 in
+        let tests = and_parts (s.slot == slot) (s.length == n) one.4 in
+        (live_slot s (times s.slot named), ap (λ (k : ℕ). held pool k) (sym (eqb-true s.slot slot tests.0)) ∙ h.here s (one.0, one.2, one.3), refl, eqb-true s.length n tests.1),
     λ has.
-    let found = held_segment slot has.0 has.1 in
-    let s = found.0 in
-    list_any-from_Any (λ (r : NewSegment). (r.slot == slot) && (r.length == n)) known
-        (found.1.0, s, found.1.1, found.1.2, and_from _ _ (eq-eqb s.slot slot found.2) (eq-eqb s.length n (sym (ap (λ (w : Slot). w.length) found.3) ∙ has.3)))
+        let found = held_segment slot has.0 has.1 in
+        let s = found.0 in
+        list_any-from_Any (λ (r : NewSegment). (r.slot == slot) && (r.length == n)) known
+        (found.1.0, s, found.1.1, found.1.2, and_from _ _ (eq-eqb s.slot slot found.2) (eq-eqb s.length n (sym (ap (λ (w : Slot). w.length) found.3) ∙ has.3))),
   )
 
-  -- no slot's count is more than all that is named
-  pub counts_named : (slot : ℕ) → count_of (held pool slot) ≤ length named
-  counts_named slot = at (has_slot slot known) refl
+  -- counts may be raised as often as slots may be named beside those that are
+  pub counts_fit : (more : ℕ) → length named + more < 2 ^ 64 → CountsFit more pool
+  counts_fit more few slot = at (has_slot slot known) refl
     where
-      at : (b : Bool) → has_slot slot known ≡ b → count_of (held pool slot) ≤ length named
+      at : (b : Bool) → has_slot slot known ≡ b → count_of (held pool slot) + more < 2 ^ 64
       at true there =
           let found = found_slot slot known there in
           let count : count_of (held pool slot) ≡ times found.0.slot named = ap count_of (ap (λ (k : ℕ). held pool k) (sym found.2) ∙ h.here found.0 found.1) in
-          omega (arith, count, count_by-le-length (λ (s : ℕ). s == found.0.slot) named)
-      at false none = omega (arith, ap count_of (h.others slot none))
+          omega (arith, few, count, count_by-le-length (λ (s : ℕ). s == found.0.slot) named)
+      at false none = omega (arith, few, ap count_of (h.others slot none))

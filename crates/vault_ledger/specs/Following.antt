@@ -1,11 +1,9 @@
 -- What a pool needs before it follows a ledger's step, and what stays in it.
-use Rattle.std.specs.Prelude.{◌≡◌, ◌≢◌, ℕ, ◌+◌, ◌-◌, ◌^◌, ◌<◌, ◌≤◌, true, ◌&&◌, not, nat_le, nat_lt, Bool, if◌then◌else◌, List, [], ◌∷◌, Some, None, Contains}
+use Rattle.std.specs.Prelude.{◌≡◌, ◌≢◌, ℕ, ◌+◌, ◌-◌, ◌^◌, ◌<◌, true, ◌&&◌, not, nat_le, nat_lt, Bool, if◌then◌else◌, List, [], ◌∷◌, Some, None}
 use Rattle.segment_pool.specs.Slots.{PoolState, count_of, held}
 use Rattle.segment_pool.specs.declared.slot.Slot.{Slot}
-use Rattle.copy_fragments.specs.Placings.{PinnedEach, times}
 use Rattle.pool_journal.specs.declared.segments.NewSegment.{NewSegment}
 use Rattle.vault_ledger.specs.Ledger.{has_slot, slot_limit}
-use Rattle.vault_ledger.specs.Pools.{HoldsLive}
 
 -- the file, the segment size and the number of slots are as before
 pub record IsSamePool (old new : PoolState) : Type 0 where
@@ -42,7 +40,3 @@ pub record IsPlacedSegment (before pool : PoolState) (s : NewSegment) : Type 0 w
   pub is_held : held pool s.slot ≡ Some what
   pub length_is : s.length ≡ what.length
   pub digest_is : s.digest ≡ what.digest
-
--- the pool held what a ledger says, and then the slots of a copy were pinned
-abbrev pub IsPlacedOn : PoolState → List NewSegment → List ℕ → List ℕ → PoolState → Type 0
-IsPlacedOn before known named slots pool = HoldsLive known named before × PinnedEach before pool slots

@@ -14,7 +14,8 @@ use std::alloc::Global;
 // How many slots a pool may have.
 const SLOT_LIMIT: u32 = 16_777_216;
 
-/// Adopts the new segments of a record as live slots. False exactly where they don't fit; then nothing is said of the pool.
+/// Adopts the new segments of a record as live slots. False exactly where they don't fit the segments that are live; then
+/// nothing is said of the pool.
 pub fn adopt<F: Fingerprint>(
     alloc: Global,
     pool: &mut Pool<F>,
@@ -57,7 +58,8 @@ fn fits<F: Fingerprint>(pool: &Pool<F>, segment: &NewSegment) -> bool
         && pool.held(segment.slot).is_none()
 }
 
-/// Counts the slots of a copy's pieces. False exactly where they aren't live or haven't the lengths of the pieces of so many bytes; then nothing is said of the pool.
+/// Counts the slots of a copy's pieces. False exactly where they aren't live or haven't the lengths of the pieces of so many bytes;
+/// then nothing is said of the pool.
 pub fn name_pieces<F: Fingerprint>(pool: &mut Pool<F>, slots: &[u32], bytes: u64) -> bool
     requires few { CountsFit (length slots.now) pool.old }
     ensures named { (known : List Segment) (named : List ℕ) → HoldsLive known named pool.old → IsAdopted known (named ++ slots.now) (pieces_fit pool.old.size known bytes slots.now) pool.new result }

@@ -13,11 +13,7 @@ use segment_pool::{Fingerprint, Pool};
 
 /// Makes the slots of a copy live that was placed, counts them, and takes back their pins. The segments that weren't live are added
 /// to `added`, each once, in the order in which they come first. It takes no memory.
-pub fn keep_pieces<F: Fingerprint>(
-    pool: &mut Pool<F>,
-    slots: &[u32],
-    added: &mut Vec<NewSegment>,
-)
+pub fn keep_pieces<F: Fingerprint>(pool: &mut Pool<F>, slots: &[u32], added: &mut Vec<NewSegment>)
     requires empty { added.old.items ≡ [] }
     requires room { length slots.now ≤ vec_capacity added.old }
     requires pinned { ArePinned pool.old slots.now }

@@ -1,5 +1,5 @@
-use Rattle.std.proofs.Common.{◌≡◌, true, false, rules}
-use Rattle.vault_ledger.proofs.Adoptions.{adopted_fit, unfit_held}
+use Rattle.std.proofs.Common.{rules}
+use Rattle.vault_ledger.proofs.Adoptions.{adopted_fit}
 use Rattle.vault_ledger.proofs.adopting.adopt_segment.Goals as goal
 
 pub returns-clause-adopted : goal.returns-clause-adopted

@@ -1,4 +1,4 @@
-use Rattle.std.proofs.Common.{◌≡◌, true, false, sym, ◌∙◌, rules}
+use Rattle.std.proofs.Common.{sym, ◌∙◌, rules}
 use Rattle.vault_ledger.proofs.Adoptions.{named_fit, piece_is}
 use Rattle.vault_ledger.proofs.adopting.name_piece.Goals as goal
 

@@ -20,7 +20,7 @@ returns-then-rest-eq0-clause-named g c = λ known named h.
     let slots = c.args.slots.now in
     let far = c.loop-slot.invariant.so_far known named h in
     elim c.then-rest-eq0.branch [
-      then-rest-eq0-via-then-rest-eq0 w ↦ none_left c.args.pool.now.size known named c.args.bytes slots c.loop-slot.slot-index c.loop-slot.rest _ _ c.loop-slot.pool c.loop-slot.pool (omega arith) refl refl far (search rules)
-    | then-rest-eq0-via-else-rest-eq0+then-not-name_piece w ↦ unfit_slot c.args.pool.now.size known named c.args.bytes slots c.loop-slot.slot-index c.loop-slot.rest w.min.result _ c.loop-slot.pool w.name_piece.new.pool (omega arith) (omega arith) refl far
-        (w.if-not-name_piece.ensures.named known (named ++ take c.loop-slot.slot-index slots) far.holds)
+      | then-rest-eq0-via-then-rest-eq0 w ↦ none_left c.args.pool.now.size known named c.args.bytes slots c.loop-slot.slot-index c.loop-slot.rest _ _ c.loop-slot.pool c.loop-slot.pool (omega arith) refl refl far (search rules)
+      | then-rest-eq0-via-else-rest-eq0+then-not-name_piece w ↦ unfit_slot c.args.pool.now.size known named c.args.bytes slots c.loop-slot.slot-index c.loop-slot.rest w.min.result _ c.loop-slot.pool w.name_piece.new.pool (omega arith) (omega arith) refl far
+          (w.if-not-name_piece.ensures.named known (named ++ take c.loop-slot.slot-index slots) far.holds)
     ]

@@ -3,8 +3,8 @@ use Rattle.std.specs.Prelude.{vec_capacity}
 use Rattle.segment_pool.specs.Slots.{PoolState}
 use Rattle.copy_fragments.specs.PlacingSteps.{ArePinned}
 use Rattle.pool_journal.specs.declared.segments.NewSegment.{NewSegment}
-use Rattle.vault_ledger.specs.Following.{CountsFit, IsPlacedOn, IsSamePool}
-use Rattle.vault_ledger.proofs.Kept.{KeptSoFar}
+use Rattle.vault_ledger.specs.Following.{CountsFit, IsSamePool}
+use Rattle.vault_ledger.proofs.Kept.{IsPlacedOn, KeptSoFar}
 use Rattle.vault_ledger.proofs.keeping.keep_pieces.Given as goal
 
 abbrev pub invariant-loop-slot : goal.invariant-loop-slot
