@@ -16,3 +16,4 @@ pub mod OwnSets
 pub mod TrueUnits
 pub mod SealedLedgers
 pub mod AppendedLedgers
+pub mod TouchedPools
