@@ -51,7 +51,7 @@ rest_still old new end records same only rest = record {
 }
 
 -- a look round leaves a ledger known, with its state
-pub kept_rests : (old new : Disk) (end : ℕ) (l : Ledger) → Rests old new → KeptLedger old end l → KeptLedger new end l × (state_over new.seen l ≡ state_over old.seen l)
+pub kept_rests : (old new : Disk) (end : ℕ) (l : Ledger) → Rests old new → (kept : KeptLedger old end l) → (more : KeptLedger new end l) × (more.records ≡ kept.records) × (state_over new.seen l ≡ state_over old.seen l)
 kept_rests old new end l rests kept =
     let seen : new.seen ≡ old.seen = λ i f. rests.seen f i in (
       record {
@@ -61,5 +61,6 @@ kept_rests old new end l rests kept =
         is_true = ap (λ (c : DiskImage). are_true c l l.outline.stored) seen ∙ kept.is_true;
         keeps = record { each = λ c left unit. kept.keeps.each c (rests.left c left) unit ∙ ap (λ (d : DiskImage). pieces_on d l unit) (sym seen) };
       },
+      refl,
       ap (λ (c : DiskImage). state_over c l) seen,
     )

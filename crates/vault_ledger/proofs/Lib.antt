@@ -21,3 +21,4 @@ pub mod PoolFrames
 pub mod LedgerStates
 pub mod TrueUnits
 pub mod AppendedLedgers
+pub mod TouchedPools
