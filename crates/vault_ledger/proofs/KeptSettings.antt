@@ -1,22 +1,17 @@
 -- Settings that are done leave what a ledger says in order.
-use Rattle.desk_model.proofs.Common.{◌≡◌, ◌≢◌, ◌≤◌, ◌∙◌, ℕ, zero, suc, Bool, true, false, List, [], ◌∷◌, ◌++◌, refl, sym, ap, subst, arith, map, Option, Some, None, Result, Ok, Err, is_none, unwrap_or, ◌&&◌, if◌then◌else◌, Contains, option_map_or, bytes_eq, false≢true, and_parts, Request, StorageUnit, named, has, put, changed, Book, unit_name, disk0, unit_of, unit_with, text_is, named-put, State, Image, Stored, entries, Answer, first_refusal, setting_refusals, set_by, is_setting, first_of_client, first_under}
+use Rattle.desk_model.proofs.Common.{◌≡◌, ◌≢◌, ◌≤◌, ◌∙◌, ℕ, zero, suc, Bool, true, false, List, [], ◌∷◌, ◌++◌, refl, sym, ap, subst, arith, map, Option, Some, None, Contains, option_map_or, false≢true, Request, has, unit_name, State, Image, Stored, entries, Answer, first_refusal, setting_refusals, set_by, first_of_client, first_under}
 use Rattle.std.proofs.lemmas.List.{map-append}
 use Rattle.std.proofs.Common.{⊎_elim}
 use Rattle.std.proofs.lemmas.List.Elements.{Contains-push_cases}
 use Rattle.std.specs.Prelude.{find}
-use Rattle.std.specs.Result.{result_ok}
-use Rattle.site_types.specs.Lines.{line_of, read_line}
 use Rattle.site_types.specs.declared.image.ImageRecord.{ImageRecord}
 use Rattle.site_types.specs.declared.request.Request.TheVariants as request
-use Rattle.site_types.proofs.OptionLemmas.{guarded, chained}
-use Rattle.policy_book.specs.declared.units.UnitChange.{UnitChange}
-use Rattle.policy_book.specs.Requests.{book_after, refusals_of}
+use Rattle.site_types.proofs.OptionLemmas.{chained}
+use Rattle.policy_book.specs.Requests.{refusals_of}
 use Rattle.desk_model.specs.Settings.{Removal, gone_client, gone_policy, removal_of, uses_of, used_by, is_of_client, is_under, refusal_answer, stored_after}
-use Rattle.desk_model.proofs.Asking.{Asks, line_asks}
-use Rattle.desk_model.proofs.NamedLemmas.{has-put, has-changed, named-changed, some_named}
+use Rattle.desk_model.proofs.Asking.{Asks}
 use Rattle.desk_model.proofs.Passing.{all_passed}
 use Rattle.desk_model.proofs.SoundSteps.{set_sound}
-use Rattle.desk_model.proofs.Staying.{UnitsStay}
 use Rattle.vault_ledger.specs.Fitting.{settled_by, settled}
 use Rattle.vault_ledger.proofs.SettledLines.{line_done}
 use Rattle.vault_ledger.proofs.UnitPlaces.{places_stay}

@@ -17,7 +17,6 @@ pub mod KeptBackups
 pub mod JournalLedgers
 pub mod SoundLedgers
 pub mod Frames
-pub mod PoolFrames
 pub mod LedgerStates
 pub mod TrueUnits
 pub mod AppendedLedgers

@@ -1,5 +1,5 @@
 -- A line of settings that is done.
-use Rattle.desk_model.proofs.Common.{◌≡◌, Bool, true, List, ℕ, refl, ap, Option, Some, None, Result, Ok, Err, is_none, ◌&&◌, bytes_eq, false≢true, and_parts, Request, State, first_refusal, setting_refusals, set_by, is_setting}
+use Rattle.desk_model.proofs.Common.{◌≡◌, true, List, ℕ, refl, ap, Option, Some, None, Result, Ok, Err, is_none, ◌&&◌, bytes_eq, false≢true, and_parts, Request, State, first_refusal, setting_refusals, set_by, is_setting}
 use Rattle.std.specs.Result.{result_ok}
 use Rattle.site_types.specs.Lines.{line_of, read_line}
 use Rattle.site_types.proofs.OptionLemmas.{guarded, chained}

@@ -1,23 +1,19 @@
 -- A change of the site is the same on a ledger and on the state that it stands for.
-use Rattle.std.proofs.Common.{◌≡◌, ◌∙◌, ◌+◌, ℕ, suc, Bool, true, false, List, [], ◌∷◌, ◌++◌, length, refl, sym, ap, arith}
-use Rattle.std.specs.Prelude.{map, filter, if◌then◌else◌, Option, Some, None, unwrap_or, Contains}
+use Rattle.std.proofs.Common.{◌≡◌, ◌∙◌, ◌+◌, ℕ, suc, Bool, true, false, List, [], ◌∷◌, ◌++◌, refl, sym, ap, arith}
+use Rattle.std.specs.Prelude.{map, filter, if◌then◌else◌, None, Contains}
 use Rattle.std.specs.Str.{bytes_eq}
 use Rattle.std.proofs.lemmas.Bool.{false≢true}
 use Rattle.std.proofs.lemmas.List.{map-append}
 use Rattle.site_types.specs.declared.image.CopyRecord.{CopyRecord}
 use Rattle.site_types.specs.declared.request.Request.{Request}
 use Rattle.site_types.specs.declared.request.Request.TheVariants as request
-use Rattle.site_types.specs.declared.unit.Unit.{Unit as StorageUnit}
 use Rattle.slp_tree.proofs.ListLemmas.{text_is}
 use Rattle.vault_disk.specs.Disk.{Image as DiskImage}
 use Rattle.pool_journal.specs.declared.segments.NewSegment.{NewSegment}
-use Rattle.policy_book.specs.Lists.{has, named}
-use Rattle.policy_book.specs.Book.{Book, disk0, unit_name}
-use Rattle.policy_book.specs.Changes.{unit_of, unit_with}
-use Rattle.policy_book.specs.Requests.{book_after}
-use Rattle.desk_model.specs.State.{State, Image, Stored}
+use Rattle.policy_book.specs.Lists.{has}
+use Rattle.policy_book.specs.Book.{unit_name}
+use Rattle.desk_model.specs.State.{Image, Stored}
 use Rattle.desk_model.specs.Refusals.{first_refusal}
-use Rattle.desk_model.specs.Backups.{unit_at}
 use Rattle.desk_model.specs.Settings.{set_by, setting_refusals, stored_after}
 use Rattle.desk_model.proofs.Passing.{all_passed}
 use Rattle.vault_ledger.proofs.UnitPlaces.{places_stay}

@@ -12,7 +12,7 @@ use Rattle.desk_model.specs.Pieces.{piece_count, piece_limit}
 use Rattle.desk_model.proofs.ImageLists.{of_entries}
 use Rattle.desk_model.proofs.Passing.{mapped_in}
 use Rattle.desk_model.proofs.Restores.{keeps_copies}
-use Rattle.vault_ledger.specs.Ledger.{Ledger, are_distinct, are_true, are_whole, bytes_by, image_over, is_true_unit, journal_reads, live_on, piece_in, pieces_on, pool_file, segment_of, set_over, slots_of, spelled, stands, state_over, state_where}
+use Rattle.vault_ledger.specs.Ledger.{Ledger, are_distinct, are_true, are_whole, bytes_by, image_over, journal_reads, live_on, piece_in, pieces_on, pool_file, segment_of, set_over, slots_of, spelled, stands, state_over, state_where}
 use Rattle.vault_ledger.specs.Wellformed.{IsLedger, IsPlaced, set_units}
 use Rattle.vault_ledger.proofs.KeptBackups.{in_mapped}
 use Rattle.vault_ledger.proofs.TrueUnits as pools

@@ -1,5 +1,5 @@
 -- Placing pieces in a unit's pool leaves a known ledger known, with its state.
-use Rattle.desk_model.proofs.Common.{◌≡◌, ◌≢◌, ◌∙◌, ℕ, zero, suc, Bool, true, false, cond, Some, List, [], ◌∷◌, length, take, drop, map, sym, refl, ap, subst, arith, Contains, and_parts, bytes_eq, bytes_eq-Decides, false≢true, text_is, has, unit_name, Book}
+use Rattle.desk_model.proofs.Common.{◌≡◌, ◌≢◌, ◌∙◌, ℕ, zero, suc, Bool, true, false, cond, Some, List, [], ◌∷◌, length, take, drop, map, sym, refl, ap, subst, arith, Contains, and_parts, bytes_eq, bytes_eq-Decides, false≢true, text_is, has, unit_name}
 use Rattle.std.proofs.Common.{inl, ◌*◌}
 use Rattle.std.specs.Prelude.{filter}
 use Rattle.vault_disk.specs.Disk.{Disk, Image as DiskImage}
@@ -11,12 +11,12 @@ use Rattle.segment_pool.specs.Slots.{PoolState}
 use Rattle.copy_fragments.specs.Placings.{times}
 use Rattle.desk_model.specs.State.{State}
 use Rattle.vault_ledger.specs.Keeping.{Between, KeptLedger, StandsFor}
-use Rattle.vault_ledger.specs.Ledger.{Ledger, LiveSlot, are_distinct, are_true, are_whole, ledger_of, live_on, piece_in, pieces_on, pool_file, segment_of, stands, state_over}
+use Rattle.vault_ledger.specs.Ledger.{Ledger, LiveSlot, are_distinct, are_whole, ledger_of, live_on, piece_in, pieces_on, pool_file, segment_of, stands, state_over}
 use Rattle.vault_ledger.specs.Pools.{HoldsLive, live_slot}
 use Rattle.vault_ledger.specs.Wellformed.{IsLedger}
 use Rattle.vault_ledger.proofs.Frames.{over_alike, true_alike}
 use Rattle.vault_ledger.proofs.KeptLedgers.{kept_in_order, kept_reads, rest_still, stands_too}
-use Rattle.vault_ledger.proofs.OwnSets.{one_file}
+use Rattle.vault_ledger.proofs.LedgerUnits.{number_own}
 use Rattle.vault_ledger.proofs.SpelledPieces.{whole_alike, whole_at}
 use Rattle.vault_ledger.proofs.TrueUnits.{true_unit}
 
@@ -59,7 +59,7 @@ module _ (l : Ledger) (kept : IsLedger l) (unit : List ℕ) (there : has unit_na
   other_pieces : (end : ℕ) (d c : DiskImage) → KeepsPieces pool end d c → (other : List ℕ) → unit ≢ other → pieces_on c l other ≡ pieces_on d l other
   other_pieces end d c keeps other differs = map_alike (piece_in (c (pool_file other l.outline)) (segment_of other l.outline)) (piece_in (d (pool_file other l.outline)) (segment_of other l.outline)) (live_on other l.live) (λ s among.
       let in_book = unit_with_live (λ name. has unit_name name l.outline.site.book.units ≡ true) other l.live (λ t t_among. (kept.live t t_among).unit) s among in
-      let same = keeps.others (pool_file other l.outline) (λ is. differs (sym (one_file l kept other unit in_book there (is ∙ file_is)))) in
+      let same = keeps.others (pool_file other l.outline) (λ is. let one = is ∙ file_is in differs (sym ((bytes_eq-Decides other unit).0 (number_own l kept other unit in_book there (omega (arith, one)))))) in
       ap (λ (bytes : List ℕ). piece_in bytes (segment_of other l.outline) s) same)
 
   -- each live slot has the bytes that it had

@@ -32,8 +32,8 @@ places_stay (request.UnitChange name capacity slots high low) s none other there
     let one = some_named unit_name other s.site.book.units there in (
       has-changed unit_name name (unit_with change) (λ u. refl) other s.site.book.units ∙ there,
       ap (λ (o : Option StorageUnit). place (unwrap_or o disk0)) (named-changed unit_name name (unit_with change) (λ u. refl) other s.site.book.units one.0 one.1)
-      ∙ at (bytes_eq one.0.name name) one.0
-      ∙ ap (λ (o : Option StorageUnit). place (unwrap_or o disk0)) (sym one.1),
+          ∙ at (bytes_eq one.0.name name) one.0
+          ∙ ap (λ (o : Option StorageUnit). place (unwrap_or o disk0)) (sym one.1),
     )
   where
     change : UnitChange

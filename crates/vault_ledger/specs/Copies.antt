@@ -1,5 +1,5 @@
 -- The copies of images, by the images' ids.
-use Rattle.std.specs.Prelude.{◌≡◌, cond, List, Option, Some, None}
+use Rattle.std.specs.Prelude.{◌≡◌, cond, List, Option}
 use Rattle.std.specs.BTreeMap.{is_at}
 use Rattle.std.specs.Cmp.Lexicographic.{slice_cmp}
 use Rattle.std.specs.Map.{lookup}
