@@ -17,3 +17,5 @@ pub mod TrueUnits
 pub mod SealedLedgers
 pub mod AppendedLedgers
 pub mod TouchedPools
+pub mod TruePools
+pub mod PoolLedgers
