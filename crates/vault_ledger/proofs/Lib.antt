@@ -19,3 +19,4 @@ pub mod AppendedLedgers
 pub mod TouchedPools
 pub mod TruePools
 pub mod PoolLedgers
+pub mod SyncedPools
