@@ -1,10 +1,10 @@
 -- A record that is added to a journal takes its vault from one ledger to the next.
-use Rattle.desk_model.proofs.Common.{◌≡◌, ◌≢◌, ◌∙◌, ⊎_elim, ℕ, zero, suc, List, [], ◌∷◌, ◌++◌, map, true, sym, refl, ap, subst, arith, Option, Some, None, Result, Ok, Contains, length}
-use Rattle.std.proofs.Common.{inl, inr, ◌⊎◌}
+use Rattle.desk_model.proofs.Common.{◌≡◌, ◌≢◌, ◌∙◌, ⊎_elim, ℕ, List, [], ◌∷◌, map, true, sym, refl, ap, arith, Option, Some, None, Ok}
+use Rattle.std.proofs.Common.{inl, inr}
 use Rattle.vault_disk.specs.Disk.{Disk, Image as DiskImage}
 use Rattle.vault_disk.proofs.Moments.{weaker}
 use Rattle.pool_journal.specs.Entries.{Record}
-use Rattle.pool_journal.specs.Records.{Found, Reading, found, reading}
+use Rattle.pool_journal.specs.Records.{Found}
 use Rattle.pool_journal.specs.Stops.{Appended, Appending, FromBefore, IsBeforeOrAfter, Stops, with_one}
 use Rattle.desk_model.specs.State.{State}
 use Rattle.vault_ledger.specs.Keeping.{Between, KeepsLive, KeptLedger, StandsFor}

@@ -1,5 +1,5 @@
 -- A backup that fits leaves what a ledger says in order.
-use Rattle.desk_model.proofs.Common.{◌≡◌, ◌≢◌, ◌≤◌, ◌<◌, ◌∙◌, ℕ, zero, suc, Bool, true, false, List, [], ◌∷◌, ◌++◌, length, map, replicate, refl, sym, ap, subst, arith, Some, cond, find, not, ◌&&◌, ◌==◌, nat_le, nat_lt, if◌then◌else◌, Contains, option_map_or, bytes_eq, false≢true, and_parts, bytes_eq-Decides, nat_tests, text_is, BackupId, has, Book, unit_name, same_id, with_record, pieces, State, Image, Stored, has_image, with_stored, operations_in, sealed, sealed_entry, Sound}
+use Rattle.desk_model.proofs.Common.{◌≡◌, ◌≢◌, ◌≤◌, ◌<◌, ◌∙◌, ℕ, zero, suc, Bool, true, false, List, [], ◌∷◌, ◌++◌, map, replicate, refl, sym, ap, subst, arith, Some, cond, find, not, ◌&&◌, ◌==◌, nat_le, nat_lt, if◌then◌else◌, Contains, option_map_or, bytes_eq, false≢true, and_parts, bytes_eq-Decides, nat_tests, text_is, BackupId, has, Book, unit_name, same_id, with_record, pieces, State, Image, Stored, has_image, with_stored, operations_in, sealed, Sound}
 use Rattle.std.proofs.Common.{⊎_elim}
 use Rattle.std.specs.Prelude.{filter}
 use Rattle.std.proofs.lemmas.Bool.{not-true}
@@ -44,22 +44,29 @@ set_units_stored unit more (set ∷ sets) = at (bytes_eq set.unit unit) (set_uni
 abbrev pub slot_on : List ℕ → NewSegment → LiveSlot
 slot_on unit s = record { unit = unit; segment = s }
 
-pub live_more : (unit : List ℕ) (live more : List LiveSlot) → live_on unit (live ++ more) ≡ live_on unit live ++ live_on unit more
+live_more : (unit : List ℕ) (live more : List LiveSlot) → live_on unit (live ++ more) ≡ live_on unit live ++ live_on unit more
 live_more unit live more =
     let test : LiveSlot → Bool = λ s. bytes_eq s.unit unit in
     ap (λ (l : List LiveSlot). map (λ s. s.segment) l) (filter-append test live more) ∙ map-append (λ (s : LiveSlot). s.segment) (filter test live) (filter test more)
 
-pub live_own : (unit : List ℕ) (added : List NewSegment) → live_on unit (map (slot_on unit) added) ≡ added
+live_own : (unit : List ℕ) (added : List NewSegment) → live_on unit (map (slot_on unit) added) ≡ added
 live_own unit [] = refl
 live_own unit (s ∷ added) =
     let rest : List LiveSlot = filter (λ t. bytes_eq t.unit unit) (map (slot_on unit) added) in
     (λ i. map (λ t. t.segment) (cond ((bytes_eq-Decides unit unit).1 refl i) (slot_on unit s ∷ rest) rest)) ∙ ap (λ (l : List NewSegment). s ∷ l) (live_own unit added)
 
-pub live_other : (unit other : List ℕ) (added : List NewSegment) → bytes_eq unit other ≡ false → live_on other (map (slot_on unit) added) ≡ []
+live_other : (unit other : List ℕ) (added : List NewSegment) → bytes_eq unit other ≡ false → live_on other (map (slot_on unit) added) ≡ []
 live_other unit other [] differs = refl
 live_other unit other (s ∷ added) differs =
     let rest : List LiveSlot = filter (λ t. bytes_eq t.unit other) (map (slot_on unit) added) in
     (λ i. map (λ t. t.segment) (cond (differs i) (slot_on unit s ∷ rest) rest)) ∙ live_other unit other added differs
+
+-- a unit's live slots, where new ones of it or of another unit are behind all
+pub live_grown : (unit : List ℕ) (live : List LiveSlot) (added : List NewSegment) → live_on unit (live ++ map (slot_on unit) added) ≡ live_on unit live ++ added
+live_grown unit live added = live_more unit live (map (slot_on unit) added) ∙ ap (λ (l : List NewSegment). live_on unit live ++ l) (live_own unit added)
+
+pub live_same : (unit other : List ℕ) (live : List LiveSlot) (added : List NewSegment) → bytes_eq unit other ≡ false → live_on other (live ++ map (slot_on unit) added) ≡ live_on other live
+live_same unit other live added differs = live_more other live (map (slot_on unit) added) ∙ ap (λ (l : List NewSegment). live_on other live ++ l) (live_other unit other added differs) ∙ append-nil (live_on other live)
 
 -- each new segment is one that its unit may have
 added_so : (size : ℕ) (known added : List NewSegment) → added_fit size known added ≡ true → (s : NewSegment) → Contains added s → (s.slot < slot_limit) × (1 ≤ s.length) × (s.length ≤ size)
@@ -179,12 +186,12 @@ module _ (l : Ledger) (kept : IsLedger l) (w : WholeImage) (segments : Segments)
       (Contains-append_cases l.live more s among)
 
   apart_new : (other : List ℕ) → AreApart (live_on other new.live)
-  apart_new other = subst AreApart (sym (live_more other l.live more)) (at (bytes_eq unit other) refl)
+  apart_new other = at (bytes_eq unit other) refl
     where
-      at : (b : Bool) → bytes_eq unit other ≡ b → AreApart (live_on other l.live ++ live_on other more)
-      at true same = subst (λ (name : List ℕ). AreApart (live_on name l.live ++ live_on name more)) (text_is unit other same)
-          (subst (λ (added : List NewSegment). AreApart (live_on unit l.live ++ added)) (sym (live_own unit segments.added)) (added_apart size (live_on unit l.live) segments.added (kept.apart unit) segments_so.0))
-      at false differs = subst (λ (added : List NewSegment). AreApart (live_on other l.live ++ added)) (sym (live_other unit other segments.added differs)) (subst AreApart (sym (append-nil (live_on other l.live))) (kept.apart other))
+      at : (b : Bool) → bytes_eq unit other ≡ b → AreApart (live_on other new.live)
+      at true same = subst (λ (name : List ℕ). AreApart (live_on name new.live)) (text_is unit other same)
+          (subst AreApart (sym (live_grown unit l.live segments.added)) (added_apart size (live_on unit l.live) segments.added (kept.apart unit) segments_so.0))
+      at false differs = subst AreApart (sym (live_same unit other l.live segments.added differs)) (kept.apart other)
 
   -- the other images' pieces are where they were
   placed_still : (image : Image) → Contains old.images image → IsPlaced new image.entry
@@ -206,7 +213,7 @@ module _ (l : Ledger) (kept : IsLedger l) (w : WholeImage) (segments : Segments)
     copy = record { number = 1; unit = unit; completed = w.completed; expiry = expiry.Rule };
     only = refl;
     unit = unit_there;
-    pieces = ap (λ (known : List NewSegment). pieces_fit size known w.length (slots_of w.id 1 new.placements)) (live_more unit l.live more ∙ ap (λ (added : List NewSegment). live_on unit l.live ++ added) (live_own unit segments.added))
+    pieces = ap (λ (known : List NewSegment). pieces_fit size known w.length (slots_of w.id 1 new.placements)) (live_grown unit l.live segments.added)
         ∙ ap (λ (slots : List ℕ). pieces_fit size (live_on unit l.live ++ segments.added) w.length slots) (slots_own (record { id = w.id; copy = 1; unit = unit; slots = segments.pieces }) l.placements)
         ∙ segments_so.1;
   }

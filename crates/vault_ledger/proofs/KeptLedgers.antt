@@ -3,12 +3,12 @@ use Rattle.desk_model.proofs.Common.{◌≡◌, ◌∙◌, ℕ, List, refl, sym,
 use Rattle.std.specs.Result.{result_ok}
 use Rattle.vault_disk.specs.Disk.{Disk, Image as DiskImage}
 use Rattle.vault_disk.specs.Steps.{Rests}
-use Rattle.pool_journal.specs.Records.{Found, Reading, Holds, reading}
+use Rattle.pool_journal.specs.Records.{Found, Holds, reading}
 use Rattle.pool_journal.specs.Stops.{AtRest}
 use Rattle.desk_model.specs.State.{State}
-use Rattle.vault_ledger.specs.Keeping.{KeepsLive, KeptLedger}
-use Rattle.vault_ledger.specs.Ledger.{Ledger, all_recorded, are_true, journal_reads, ledger_of, pieces_on, stands, state_over, state_where}
-use Rattle.vault_ledger.proofs.Frames.{over_alike, stands_alike, true_alike}
+use Rattle.vault_ledger.specs.Keeping.{KeptLedger}
+use Rattle.vault_ledger.specs.Ledger.{Ledger, are_true, journal_reads, ledger_of, pieces_on, stands, state_over, state_where}
+use Rattle.vault_ledger.proofs.Frames.{over_alike, true_alike}
 use Rattle.vault_ledger.specs.Wellformed.{IsLedger}
 use Rattle.vault_ledger.proofs.JournalLedgers.{journal_kept}
 

@@ -8,7 +8,7 @@ use Rattle.std.proofs.lemmas.List.Elements.{All-head, All-push, All-tail}
 use Rattle.std.proofs.lemmas.Bool.{false≢true}
 use Rattle.std.proofs.lemmas.Bool.Decides.{nat_tests}
 use Rattle.std.proofs.lemmas.Slice.Eq.{bytes_eq-Decides}
-use Rattle.desk_model.specs.Pieces.{with_piece, with_pieces}
+use Rattle.desk_model.specs.Pieces.{with_pieces}
 use Rattle.copy_fragments.specs.Placings.{lacking}
 use Rattle.vault_ledger.specs.Pools.{unrecorded}
 

@@ -1,9 +1,8 @@
 -- Each unit has a set of its own: no two sets are of one unit, and no two units have one number.
-use Rattle.desk_model.proofs.Common.{◌≡◌, ◌≢◌, ◌≤◌, ◌<◌, ◌+◌, ◌∙◌, ℕ, suc, Bool, true, false, List, [], ◌∷◌, length, get_or, map, refl, sym, ap, subst, arith, Option, Some, option_map, slice_get, Contains, bytes_eq, false≢true, bytes_eq-Decides, length-map, get_or-map, text_is, StorageUnit, AreByName, All, has, named, unit_at, unit_name, unwrap_or, disk0, Book, State, Stored, Sound, HasSet}
+use Rattle.desk_model.proofs.Common.{◌≡◌, ◌≤◌, ◌<◌, ◌∙◌, ℕ, Bool, true, false, List, [], ◌∷◌, length, get_or, map, refl, sym, ap, subst, arith, Option, Some, option_map, slice_get, Contains, bytes_eq, false≢true, bytes_eq-Decides, length-map, get_or-map, text_is, StorageUnit, AreByName, All, has, unit_at, unit_name, unwrap_or, disk0, Book, State, Stored, Sound}
 use Rattle.std.specs.Cmp.Lexicographic.{slice_cmp}
 use Rattle.std.specs.List.{IsDistinct}
 use Rattle.std.specs.Ordering.{nat_cmp}
-use Rattle.std.specs.declared.cmp.Ordering.{Ordering}
 use Rattle.std.specs.declared.cmp.Ordering.TheVariants.{Less, Equal}
 use Rattle.std.specs.Set.{distinct_count, is_member}
 use Rattle.std.proofs.lemmas.Cmp.{nat_list_cmp_total, nat_list_eq_equiv, tied_itself}

@@ -1,6 +1,5 @@
 -- The pool of a ledger's unit is true where the ledger's pools are; and where it is true after a backup, the pools of the ledger with that backup are.
-use Rattle.desk_model.proofs.Common.{◌≡◌, ◌∙◌, ℕ, Bool, true, false, List, [], ◌++◌, map, ◌&&◌, sym, refl, ap, subst, and_parts, bytes_eq, has, text_is, unit_name}
-use Rattle.std.proofs.lemmas.List.{append-nil}
+use Rattle.desk_model.proofs.Common.{◌≡◌, ℕ, Bool, true, false, List, ◌++◌, map, ◌&&◌, sym, refl, ap, subst, and_parts, bytes_eq, has, text_is, unit_name}
 use Rattle.sha2.specs.Sha256.{sha256}
 use Rattle.vault_disk.specs.Disk.{Image as DiskImage}
 use Rattle.pool_journal.specs.declared.entry.WholeImage.{WholeImage}
@@ -12,8 +11,7 @@ use Rattle.vault_ledger.specs.Fitting.{whole_unit}
 use Rattle.vault_ledger.specs.Ledger.{Ledger, are_distinct, are_true, are_whole, backup_fits, is_true_unit, live_on, piece_in, pieces_on, pool_file, segment_of, with_backup}
 use Rattle.vault_ledger.specs.Pools.{HoldsLive}
 use Rattle.vault_ledger.specs.Wellformed.{AreApart, IsLedger}
-use Rattle.vault_ledger.proofs.KeptBackups.{backup_kept, live_more, live_other, slot_on}
-use Rattle.vault_ledger.proofs.SealedLedgers.{live_with}
+use Rattle.vault_ledger.proofs.KeptBackups.{backup_kept, live_grown, live_same}
 use Rattle.vault_ledger.proofs.TruePools.{HasSlotsOf, pool_distinct, pool_whole, true_as, true_pool}
 use Rattle.vault_ledger.proofs.TrueUnits.{true_pools, true_unit}
 
@@ -41,14 +39,14 @@ module _ (c : DiskImage) (l : Ledger) (kept : IsLedger l) (w : WholeImage) (segm
   in_order = backup_kept l kept w segments fits
 
   other_unit : (other : List ℕ) → bytes_eq unit other ≡ false → IsTrueOf other (live_on other l.live) → is_true_unit c new other ≡ true
-  other_unit other differs is_true = subst (IsTrueOf other) (sym (live_more other l.live (map (slot_on unit) segments.added) ∙ ap (λ (added : List NewSegment). live_on other l.live ++ added) (live_other unit other segments.added differs) ∙ append-nil (live_on other l.live))) is_true
+  other_unit other differs is_true = subst (IsTrueOf other) (sym (live_same unit other l.live segments.added differs)) is_true
 
   -- the pool before its pieces were live is true, and so are the pools of the ledger before; then those of the ledger with the backup are
   pub backup_pools : are_true c l l.outline.stored ≡ true → (placed pool : PoolState) → HasSlotsOf placed pool → IsTruePool sha256 placed c → pool.file ≡ pool_file unit l.outline → pool.size ≡ segment_of unit l.outline → (named : List ℕ) → HoldsLive all named pool → are_true c new new.outline.stored ≡ true
   backup_pools was placed pool has_slots true_placed file_is size_is named holds = true_pools c new in_order (λ other there. at other there (bytes_eq unit other) refl)
     where
       apart : AreApart all
-      apart = subst AreApart (live_with l kept w segments fits) (in_order.apart unit)
+      apart = subst AreApart (live_grown unit l.live segments.added) (in_order.apart unit)
 
       is_true : IsTruePool sha256 pool c
       is_true = true_as placed pool c has_slots true_placed
@@ -63,7 +61,7 @@ module _ (c : DiskImage) (l : Ledger) (kept : IsLedger l) (w : WholeImage) (segm
       distinct = pool_distinct all apart named pool holds c file (ap c file_is) (segment_of unit l.outline) size_is is_true
 
       own_unit : is_true_unit c new unit ≡ true
-      own_unit = subst (IsTrueOf unit) (sym (live_with l kept w segments fits)) (λ i. whole i && distinct i)
+      own_unit = subst (IsTrueOf unit) (sym (live_grown unit l.live segments.added)) (λ i. whole i && distinct i)
 
       at : (other : List ℕ) → has unit_name other new.outline.site.book.units ≡ true → (b : Bool) → bytes_eq unit other ≡ b → is_true_unit c new other ≡ true
       at other there true same = subst (λ (name : List ℕ). is_true_unit c new name ≡ true) (text_is unit other same) own_unit

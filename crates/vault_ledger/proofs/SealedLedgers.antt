@@ -1,5 +1,5 @@
 -- The ledger with a backup more stands for the state after the backup, where its segments are those that the pool lacked.
-use Rattle.desk_model.proofs.Common.{◌≡◌, ◌≢◌, ◌∙◌, ℕ, zero, suc, Bool, true, false, List, [], ◌∷◌, ◌++◌, get_or, sym, refl, ap, subst, arith, ◌&&◌, ◌==◌, map, Contains, AllPairs, and_parts, nat_tests, pieces, sealed, Sound}
+use Rattle.desk_model.proofs.Common.{◌≡◌, ◌≢◌, ℕ, suc, Bool, true, false, List, [], ◌∷◌, ◌++◌, get_or, refl, subst, arith, ◌==◌, map, and_parts, nat_tests, pieces, sealed}
 use Rattle.std.proofs.lemmas.List.Folds.{list_any_none}
 use Rattle.vault_disk.specs.Disk.{Image as DiskImage}
 use Rattle.pool_journal.specs.declared.entry.WholeImage.{WholeImage}
@@ -7,10 +7,10 @@ use Rattle.pool_journal.specs.declared.segments.NewSegment.{NewSegment}
 use Rattle.pool_journal.specs.declared.segments.Segments.{Segments}
 use Rattle.copy_fragments.specs.Placings.{lacking}
 use Rattle.vault_ledger.specs.Fitting.{whole_entry, whole_unit}
-use Rattle.vault_ledger.specs.Ledger.{Ledger, are_distinct, are_true, are_whole, backup_fits, has_slot, live_on, piece_in, pieces_on, pool_file, segment_of, spelled, state_over, with_backup}
+use Rattle.vault_ledger.specs.Ledger.{Ledger, are_distinct, are_true, are_whole, backup_fits, live_on, piece_in, pieces_on, pool_file, segment_of, spelled, state_over, with_backup}
 use Rattle.vault_ledger.specs.Pools.{slots_in, unrecorded}
 use Rattle.vault_ledger.specs.Wellformed.{AreApart, IsLedger}
-use Rattle.vault_ledger.proofs.KeptBackups.{backup_kept, here, live_more, live_own, segments_so, slot_on, unit_there}
+use Rattle.vault_ledger.proofs.KeptBackups.{backup_kept, here, live_grown, segments_so, unit_there}
 use Rattle.vault_ledger.proofs.OwnSets.{sets_apart, some_size}
 use Rattle.vault_ledger.proofs.SealedStates.{sealed_state}
 use Rattle.vault_ledger.proofs.SlotPieces.{AreSlots, added_lacking}
@@ -44,10 +44,6 @@ module _ (l : Ledger) (kept : IsLedger l) (w : WholeImage) (segments : Segments)
   abbrev new : Ledger
   new = with_backup w segments l
 
-  -- the live slots of its unit are those before and the new ones
-  pub live_with : live_on unit new.live ≡ known ++ segments.added
-  live_with = live_more unit l.live (map (slot_on unit) segments.added) ∙ ap (λ (added : List NewSegment). known ++ added) (live_own unit segments.added)
-
   module _ (c : DiskImage) (is_true : are_true c new new.outline.stored ≡ true) (order : slots_in segments.added ≡ unrecorded (slots_in known) segments.pieces) where
     abbrev file : List ℕ
     file = c (pool_file unit l.outline)
@@ -57,7 +53,7 @@ module _ (l : Ledger) (kept : IsLedger l) (w : WholeImage) (segments : Segments)
 
     own_true : (are_whole file size (known ++ segments.added) ≡ true) × (are_distinct (map (piece_in file size) (known ++ segments.added)) ≡ true)
     own_true =
-        subst (λ (all : List NewSegment). (are_whole file size all ≡ true) × (are_distinct (map (piece_in file size) all) ≡ true)) live_with
+        subst (λ (all : List NewSegment). (are_whole file size all ≡ true) × (are_distinct (map (piece_in file size) all) ≡ true)) (live_grown unit l.live segments.added)
         (and_parts (are_whole file size (live_on unit new.live)) (are_distinct (pieces_on c new unit)) (true_unit c new (backup_kept l kept w segments fits) is_true unit (unit_there l kept w segments fits)))
 
     lacked : lacking (pieces_on c l unit) (pieces size bytes) ≡ map (piece_in file size) segments.added

@@ -1,13 +1,10 @@
 -- The ledger with a backup more stands for the state after the backup.
-use Rattle.std.proofs.Common.{◌≡◌, ◌≢◌, ◌∙◌, ℕ, suc, Bool, true, false, List, [], ◌∷◌, ◌++◌, length, refl, sym, ap, subst, arith}
-use Rattle.std.specs.Prelude.{map, filter, find, if◌then◌else◌, ◌==◌, ◌&&◌, ◌||◌, Option, Some, None, Contains}
-use Rattle.std.specs.Option.{option_map_or}
+use Rattle.std.proofs.Common.{◌≡◌, ◌≢◌, ◌∙◌, ℕ, suc, Bool, true, false, List, [], ◌∷◌, ◌++◌, refl, sym, ap, subst, arith}
+use Rattle.std.specs.Prelude.{map, if◌then◌else◌, Contains}
 use Rattle.std.specs.Str.{bytes_eq}
-use Rattle.std.proofs.lemmas.List.{append-nil, map-append}
-use Rattle.std.proofs.lemmas.List.Elements.{filter-append}
+use Rattle.std.proofs.lemmas.List.{map-append}
 use Rattle.std.proofs.lemmas.Bool.{false≢true}
 use Rattle.std.proofs.lemmas.Slice.Eq.{bytes_eq-Decides}
-use Rattle.site_types.specs.declared.id.BackupId.{BackupId}
 use Rattle.site_types.specs.declared.image.CopyRecord.{CopyRecord}
 use Rattle.site_types.specs.declared.image.ImageRecord.{ImageRecord}
 use Rattle.vault_disk.specs.Disk.{Image as DiskImage}
@@ -15,14 +12,13 @@ use Rattle.pool_journal.specs.declared.entry.WholeImage.{WholeImage}
 use Rattle.pool_journal.specs.declared.segments.NewSegment.{NewSegment}
 use Rattle.pool_journal.specs.declared.segments.Segments.{Segments}
 use Rattle.image_catalogue.specs.Images.{is_before, same_id}
-use Rattle.desk_model.specs.State.{State, Image, Stored, with_image, with_stored, has_image}
+use Rattle.desk_model.specs.State.{Image, Stored, with_image, with_stored, has_image}
 use Rattle.desk_model.specs.Pieces.{pieces, with_pieces}
 use Rattle.desk_model.specs.Backups.{sealed}
-use Rattle.desk_model.proofs.ImageLists.{same_is, same_self}
 use Rattle.copy_fragments.specs.Placings.{lacking}
 use Rattle.vault_ledger.specs.Fitting.{whole_entry, whole_unit}
-use Rattle.vault_ledger.specs.Ledger.{Ledger, LiveSlot, Placement, bytes_by, image_over, live_on, piece_in, pieces_on, pool_file, segment_of, set_over, slots_of, spelled, state_over, with_backup}
-use Rattle.vault_ledger.proofs.KeptBackups.{live_more, live_other, live_own, other_id, slot_on, slots_other, slots_own}
+use Rattle.vault_ledger.specs.Ledger.{Ledger, Placement, bytes_by, image_over, live_on, piece_in, pieces_on, pool_file, segment_of, set_over, spelled, state_over, with_backup}
+use Rattle.vault_ledger.proofs.KeptBackups.{live_grown, live_same, other_id, slots_other, slots_own}
 use Rattle.vault_ledger.proofs.Lacking.{with_lacking}
 
 -- no two sets are of one unit
@@ -97,9 +93,7 @@ module _ (c : DiskImage) (l : Ledger) (w : WholeImage) (segments : Segments) whe
   same_set : (set : Stored) → bytes_eq unit set.unit ≡ false → set_over c after set ≡ set_over c l set
   same_set set differs =
       ap (λ (segs : List NewSegment). record { unit = set.unit; pieces = map (piece_in (c (pool_file set.unit l.outline)) (segment_of set.unit l.outline)) segs })
-      (live_more set.unit l.live (map (slot_on unit) segments.added)
-      ∙ ap (λ (added : List NewSegment). live_on set.unit l.live ++ added) (live_other unit set.unit segments.added differs)
-      ∙ append-nil (live_on set.unit l.live))
+      (live_same unit set.unit l.live segments.added differs)
 
   same_sets : (sets : List Stored) → ((other : Stored) → Contains sets other → other.unit ≢ unit) → map (set_over c after) sets ≡ map (set_over c l) sets
   same_sets [] differ = refl
@@ -111,7 +105,7 @@ module _ (c : DiskImage) (l : Ledger) (w : WholeImage) (segments : Segments) whe
   module _ (bytes : List ℕ) (lacks : lacking (pieces_on c l unit) (pieces size bytes) ≡ map (piece_in file size) segments.added) where
     own_pieces : pieces_on c after unit ≡ with_pieces (pieces_on c l unit) (pieces size bytes)
     own_pieces =
-        ap (map (piece_in file size)) (live_more unit l.live (map (slot_on unit) segments.added) ∙ ap (λ (added : List NewSegment). live_on unit l.live ++ added) (live_own unit segments.added))
+        ap (map (piece_in file size)) (live_grown unit l.live segments.added)
         ∙ map-append (piece_in file size) (live_on unit l.live) segments.added
         ∙ ap (λ (m : List (List ℕ)). pieces_on c l unit ++ m) (sym lacks)
         ∙ sym (with_lacking (pieces_on c l unit) (pieces size bytes))

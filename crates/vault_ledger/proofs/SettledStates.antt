@@ -1,5 +1,5 @@
 -- A change of the site is the same on a ledger and on the state that it stands for.
-use Rattle.std.proofs.Common.{◌≡◌, ◌∙◌, ◌+◌, ◌*◌, ℕ, zero, suc, Bool, true, false, List, [], ◌∷◌, ◌++◌, length, refl, sym, ap, subst, arith}
+use Rattle.std.proofs.Common.{◌≡◌, ◌∙◌, ◌+◌, ℕ, suc, Bool, true, false, List, [], ◌∷◌, ◌++◌, length, refl, sym, ap, arith}
 use Rattle.std.specs.Prelude.{map, filter, if◌then◌else◌, Option, Some, None, unwrap_or, Contains}
 use Rattle.std.specs.Str.{bytes_eq}
 use Rattle.std.proofs.lemmas.Bool.{false≢true}
@@ -11,7 +11,7 @@ use Rattle.site_types.specs.declared.unit.Unit.{Unit as StorageUnit}
 use Rattle.slp_tree.proofs.ListLemmas.{named-put, text_is}
 use Rattle.vault_disk.specs.Disk.{Image as DiskImage}
 use Rattle.pool_journal.specs.declared.segments.NewSegment.{NewSegment}
-use Rattle.policy_book.specs.Lists.{changed, has, named, put}
+use Rattle.policy_book.specs.Lists.{has, named}
 use Rattle.policy_book.specs.Book.{Book, disk0, unit_name}
 use Rattle.policy_book.specs.Changes.{unit_of, unit_with}
 use Rattle.policy_book.specs.declared.units.UnitChange.{UnitChange}
@@ -22,7 +22,7 @@ use Rattle.desk_model.specs.Backups.{unit_at}
 use Rattle.desk_model.specs.Settings.{set_by, setting_refusals, stored_after}
 use Rattle.desk_model.proofs.NamedLemmas.{named-changed, some_named}
 use Rattle.desk_model.proofs.Passing.{all_passed}
-use Rattle.vault_ledger.specs.Ledger.{Ledger, LiveSlot, bytes_by, image_over, live_on, piece_in, pieces_on, pool_file, segment_of, set_over, slots_of, spelled, state_over, with_outline}
+use Rattle.vault_ledger.specs.Ledger.{Ledger, LiveSlot, bytes_by, image_over, live_on, piece_in, pool_file, segment_of, set_over, slots_of, spelled, state_over, with_outline}
 
 -- where a unit's pool is, and the size of its segments
 abbrev pub place : StorageUnit → ℕ × ℕ

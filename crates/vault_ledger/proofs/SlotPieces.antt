@@ -1,6 +1,6 @@
 -- The pieces of live slots: which a slot has, and that no other has the same.
-use Rattle.std.proofs.Common.{◌≡◌, ◌∙◌, ◌≤◌, ◌<◌, ◌+◌, ◌-◌, ◌*◌, ℕ, zero, suc, Bool, true, false, List, [], ◌∷◌, ◌++◌, length, take, drop, min, refl, sym, ap, subst, arith}
-use Rattle.std.specs.Prelude.{map, find, if◌then◌else◌, ◌==◌, ◌&&◌, ◌||◌, nat_le, nat_lt, not, Option, Some, None, Contains}
+use Rattle.std.proofs.Common.{◌≡◌, ◌∙◌, ◌≤◌, ◌-◌, ◌*◌, ℕ, zero, suc, Bool, true, false, List, [], ◌∷◌, ◌++◌, length, take, drop, min, refl, sym, ap, subst, arith}
+use Rattle.std.specs.Prelude.{map, find, if◌then◌else◌, ◌==◌, ◌&&◌, ◌||◌, nat_le, nat_lt, not, Option, Some, Contains}
 use Rattle.std.specs.List.{All, list_any}
 use Rattle.std.specs.Option.{option_map_or}
 use Rattle.std.specs.Str.{bytes_eq}

@@ -1,17 +1,11 @@
 -- Bytes that pieces in slots spell, and the pieces of them.
-use Rattle.std.proofs.Common.{◌≡◌, ◌∙◌, ◌≤◌, ◌+◌, ◌-◌, ◌*◌, ℕ, zero, suc, Bool, true, false, List, [], ◌∷◌, ◌++◌, length, take, drop, min, refl, sym, ap, subst, arith, ⊎_elim, inl, inr, ◌⊎◌}
-use Rattle.std.specs.Prelude.{map, find, if◌then◌else◌, ◌==◌, ◌&&◌, ◌||◌, nat_lt, not, Option, Some, None}
-use Rattle.std.specs.List.{list_any}
-use Rattle.std.specs.Option.{option_map_or}
-use Rattle.std.specs.Str.{bytes_eq}
-use Rattle.std.proofs.lemmas.Bool.{and_parts, false≢true}
+use Rattle.std.proofs.Common.{◌≡◌, ◌∙◌, ◌≤◌, ◌-◌, ◌*◌, ℕ, zero, suc, Bool, true, false, List, [], ◌∷◌, ◌++◌, length, take, drop, min, refl, sym, ap, subst, arith, inl, inr, ◌⊎◌}
+use Rattle.std.specs.Prelude.{nat_lt}
 use Rattle.std.proofs.lemmas.Bool.Decides.{nat_tests}
 use Rattle.std.proofs.lemmas.List.{take_all, drop_all, length-append}
 use Rattle.std.proofs.Math.Seq.{take-append_seam, drop-append_seam}
-use Rattle.std.proofs.lemmas.Slice.Eq.{bytes_eq-Decides}
-use Rattle.pool_journal.specs.declared.segments.NewSegment.{NewSegment}
 use Rattle.desk_model.specs.Pieces.{blocks, pieces}
-use Rattle.vault_ledger.specs.Ledger.{added_fit, are_distinct, are_whole, has_piece, has_slot, is_whole, piece_in, pieces_fit, spelled}
+use Rattle.vault_ledger.specs.Ledger.{spelled}
 
 -- the parts of a file of which bytes are spelled
 abbrev pub cuts : List ℕ → ℕ → ℕ → List ℕ → List (List ℕ)

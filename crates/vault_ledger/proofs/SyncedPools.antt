@@ -1,18 +1,16 @@
 -- A sync of a pool's file keeps a known ledger, and the pieces of more live slots on its unit.
-use Rattle.desk_model.proofs.Common.{◌≡◌, ◌∙◌, ℕ, Bool, true, false, List, ◌++◌, map, sym, refl, ap, subst, bytes_eq, text_is}
+use Rattle.desk_model.proofs.Common.{◌≡◌, ◌∙◌, ℕ, Bool, true, false, List, map, sym, refl, ap, subst, bytes_eq, text_is}
 use Rattle.std.proofs.Common.{inl, ⊎_elim}
-use Rattle.std.proofs.lemmas.List.{append-nil}
 use Rattle.vault_disk.specs.Disk.{Disk, During, Image as DiskImage, Now}
 use Rattle.vault_disk.specs.Steps.{LookedAround, Rests}
-use Rattle.vault_disk.proofs.Moments.{goes_on, started, weaker}
+use Rattle.vault_disk.proofs.Moments.{goes_on, weaker}
 use Rattle.pool_journal.specs.declared.entry.WholeImage.{WholeImage}
-use Rattle.pool_journal.specs.declared.segments.NewSegment.{NewSegment}
 use Rattle.pool_journal.specs.declared.segments.Segments.{Segments}
 use Rattle.desk_model.specs.State.{State}
 use Rattle.vault_ledger.specs.Fitting.{whole_unit}
 use Rattle.vault_ledger.specs.Keeping.{Between, KeepsLive, KeptLedger, StandsFor}
 use Rattle.vault_ledger.specs.Ledger.{Ledger, live_on, piece_in, pieces_on, pool_file, segment_of, state_over, with_backup}
-use Rattle.vault_ledger.proofs.KeptBackups.{live_more, live_other, slot_on}
+use Rattle.vault_ledger.proofs.KeptBackups.{live_same}
 use Rattle.vault_ledger.proofs.KeptLedgers.{kept_stands}
 
 -- where a stop leaves a pool's file as it is read, it leaves the pieces of more live slots on its unit, if those of the other units are the same
@@ -34,7 +32,7 @@ synced_live old new l m unit rests durable keeps others = record { each = λ c l
 pub synced_backup : (old new : Disk) (l : Ledger) (w : WholeImage) (segments : Segments) → Rests old new → ((c : DiskImage) → new.may_leave c → c (pool_file (whole_unit l.outline w) l.outline) ≡ old.seen (pool_file (whole_unit l.outline w) l.outline)) → KeepsLive old l → KeepsLive new (with_backup w segments l)
 synced_backup old new l w segments rests durable keeps = synced_live old new l (with_backup w segments l) unit rests durable keeps (λ c other differs.
     ap (map (piece_in (c (pool_file other l.outline)) (segment_of other l.outline)))
-    (live_more other l.live (map (slot_on unit) segments.added) ∙ ap (λ (added : List NewSegment). live_on other l.live ++ added) (live_other unit other segments.added differs) ∙ append-nil (live_on other l.live)))
+    (live_same unit other l.live segments.added differs))
   where
     unit : List ℕ
     unit = whole_unit l.outline w

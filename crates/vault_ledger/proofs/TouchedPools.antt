@@ -1,5 +1,5 @@
 -- Placing pieces in a unit's pool leaves a known ledger known, with its state.
-use Rattle.desk_model.proofs.Common.{◌≡◌, ◌≢◌, ◌∙◌, ℕ, zero, suc, Bool, true, false, cond, Some, List, [], ◌∷◌, length, take, drop, map, sym, refl, ap, subst, arith, Contains, and_parts, bytes_eq, bytes_eq-Decides, false≢true, text_is, has, unit_name, Book}
+use Rattle.desk_model.proofs.Common.{◌≡◌, ◌≢◌, ◌∙◌, ℕ, zero, suc, Bool, true, false, cond, Some, List, [], ◌∷◌, length, take, drop, map, sym, refl, ap, subst, arith, Contains, and_parts, bytes_eq, bytes_eq-Decides, false≢true, text_is, has, unit_name}
 use Rattle.std.proofs.Common.{inl, ◌*◌}
 use Rattle.std.specs.Prelude.{filter}
 use Rattle.vault_disk.specs.Disk.{Disk, Image as DiskImage}
@@ -11,7 +11,7 @@ use Rattle.segment_pool.specs.Slots.{PoolState}
 use Rattle.copy_fragments.specs.Placings.{times}
 use Rattle.desk_model.specs.State.{State}
 use Rattle.vault_ledger.specs.Keeping.{Between, KeptLedger, StandsFor}
-use Rattle.vault_ledger.specs.Ledger.{Ledger, LiveSlot, are_distinct, are_true, are_whole, ledger_of, live_on, piece_in, pieces_on, pool_file, segment_of, stands, state_over}
+use Rattle.vault_ledger.specs.Ledger.{Ledger, LiveSlot, are_distinct, are_whole, ledger_of, live_on, piece_in, pieces_on, pool_file, segment_of, stands, state_over}
 use Rattle.vault_ledger.specs.Pools.{HoldsLive, live_slot}
 use Rattle.vault_ledger.specs.Wellformed.{IsLedger}
 use Rattle.vault_ledger.proofs.Frames.{over_alike, true_alike}
