@@ -15,7 +15,7 @@ use Rattle.vault_ledger.proofs.KeptBackups.{backup_kept, here, segments_so, unit
 use Rattle.vault_ledger.proofs.KeptSettings.{line_kept, refusals_same}
 use Rattle.vault_ledger.proofs.SettledLines.{none_there}
 use Rattle.vault_ledger.proofs.LedgerUnits.{some_segment, unit_of_set}
-use Rattle.vault_ledger.proofs.SealedStates.{live_more, sealed_state}
+use Rattle.vault_ledger.proofs.SealedStates.{live_grown, sealed_state}
 use Rattle.vault_ledger.proofs.SettledStates.{AreThere, settled_over}
 use Rattle.vault_ledger.proofs.SlotPieces.{added_lacking}
 use Rattle.vault_ledger.proofs.SoundLedgers.{entries_over, true_unit}
@@ -94,7 +94,7 @@ module _ (c : DiskImage) (l : Ledger) (kept : IsLedger l) (w : WholeImage) (segm
       let there = unit_there l kept w segments fits in
       let fit = segments_so l kept w segments fits in
       let pool = true_unit c new (backup_kept l kept w segments fits) all unit there in
-      let live : live_on unit new.live ≡ known ++ segments.added = live_more unit segments.added true unit ((bytes_eq-Decides unit unit).1 refl) l.live in
+      let live : live_on unit new.live ≡ known ++ segments.added = live_grown unit l.live segments.added in
       let whole : are_whole file size (known ++ segments.added) ≡ true = subst (λ (live : List NewSegment). are_whole file size live ≡ true) live pool.0 in
       let distinct : are_distinct (map (piece_in file size) (known ++ segments.added)) ≡ true = subst (λ (live : List NewSegment). are_distinct (map (piece_in file size) live) ≡ true) live pool.1 in
       let lacks : lacking (pieces_on c l unit) (pieces size bytes) ≡ map (piece_in file size) segments.added =

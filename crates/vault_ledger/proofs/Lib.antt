@@ -21,3 +21,6 @@ pub mod LedgerStates
 pub mod TrueUnits
 pub mod AppendedLedgers
 pub mod TouchedPools
+pub mod TruePools
+pub mod PoolLedgers
+pub mod SyncedPools

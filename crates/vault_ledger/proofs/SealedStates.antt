@@ -3,7 +3,7 @@ use Rattle.std.proofs.Common.{◌≡◌, ◌≢◌, ◌∙◌, ℕ, suc, Bool, t
 use Rattle.std.specs.Prelude.{map, filter, find, if◌then◌else◌, ◌==◌, ◌&&◌, ◌||◌, Some, Contains}
 use Rattle.std.specs.Option.{option_map_or}
 use Rattle.std.specs.Str.{bytes_eq}
-use Rattle.std.proofs.lemmas.List.{map-append}
+use Rattle.std.proofs.lemmas.List.{append-nil, map-append}
 use Rattle.std.proofs.lemmas.List.Elements.{filter-append}
 use Rattle.std.proofs.lemmas.Bool.{false≢true}
 use Rattle.std.proofs.lemmas.Slice.Eq.{bytes_eq-Decides}
@@ -61,9 +61,12 @@ other_id a b differs = at (same_id b a) refl
         absurd (false≢true (sym differs ∙ ap (λ (x : BackupId). same_id a x) is ∙ same_self a))
     at false is = refl
 
-append_nil : {A : Type 0} (xs : List A) → xs ++ [] ≡ xs
-append_nil [] = refl
-append_nil (x ∷ xs) = ap (λ (l : List _). x ∷ l) (append_nil xs)
+-- new segments are behind those of their unit, and no other unit has them
+pub live_grown : (unit : List ℕ) (live : List LiveSlot) (added : List NewSegment) → live_on unit (live ++ map (λ s. record { unit = unit; segment = s }) added) ≡ live_on unit live ++ added
+live_grown unit live added = live_more unit added true unit ((bytes_eq-Decides unit unit).1 refl) live
+
+pub live_same : (unit other : List ℕ) (live : List LiveSlot) (added : List NewSegment) → bytes_eq unit other ≡ false → live_on other (live ++ map (λ s. record { unit = unit; segment = s }) added) ≡ live_on other live
+live_same unit other live added differs = live_more unit added false other differs live ∙ append-nil (live_on other live)
 
 -- a set that gets nothing is as it was
 pub stored_none : (unit : List ℕ) (sets : List Stored) → with_stored unit [] sets ≡ sets
@@ -136,7 +139,7 @@ module _ (c : DiskImage) (l : Ledger) (w : WholeImage) (segments : Segments) whe
   same_set : (set : Stored) → bytes_eq unit set.unit ≡ false → set_over c after set ≡ set_over c l set
   same_set set differs =
       ap (λ (segs : List NewSegment). record { unit = set.unit; pieces = map (piece_in (c (pool_file set.unit l.outline)) (segment_of set.unit l.outline)) segs })
-      (live_more unit segments.added false set.unit differs l.live ∙ append_nil (live_on set.unit l.live))
+      (live_same unit set.unit l.live segments.added differs)
 
   same_sets : (sets : List Stored) → ((other : Stored) → Contains sets other → other.unit ≢ unit) → map (set_over c after) sets ≡ map (set_over c l) sets
   same_sets [] differ = refl
@@ -148,7 +151,7 @@ module _ (c : DiskImage) (l : Ledger) (w : WholeImage) (segments : Segments) whe
   module _ (bytes : List ℕ) (lacks : lacking (pieces_on c l unit) (pieces size bytes) ≡ map (piece_in file size) segments.added) where
     own_pieces : pieces_on c after unit ≡ with_pieces (pieces_on c l unit) (pieces size bytes)
     own_pieces =
-        ap (map (piece_in file size)) (live_more unit segments.added true unit ((bytes_eq-Decides unit unit).1 refl) l.live)
+        ap (map (piece_in file size)) (live_grown unit l.live segments.added)
         ∙ map-append (piece_in file size) (live_on unit l.live) segments.added
         ∙ ap (λ (m : List (List ℕ)). pieces_on c l unit ++ m) (sym lacks)
         ∙ sym (with_lacking (pieces_on c l unit) (pieces size bytes))
