@@ -1,5 +1,5 @@
 -- What a ledger in order stands for, after a change of the site and after a backup.
-use Rattle.desk_model.proofs.Common.{◌≡◌, ◌∙◌, ℕ, zero, suc, Bool, true, false, List, [], ◌∷◌, ◌++◌, refl, sym, ap, subst, arith, map, Option, Some, None, is_none, ◌&&◌, if◌then◌else◌, Contains, bytes_eq, bytes_eq-Decides, option_map, and_parts, CopyRecord, Request, Answer, has, unit_name, pieces, State, first_refusal, setting_refusals, set_by, is_setting, sealed, option_and_then}
+use Rattle.desk_model.proofs.Common.{◌≡◌, ◌∙◌, ℕ, zero, suc, Bool, true, false, List, [], ◌∷◌, ◌++◌, refl, sym, ap, subst, arith, map, Option, Some, None, is_none, ◌&&◌, if◌then◌else◌, Contains, bytes_eq, option_map, and_parts, CopyRecord, Request, Answer, has, unit_name, pieces, State, first_refusal, setting_refusals, set_by, is_setting, sealed, option_and_then}
 use Rattle.std.specs.Result.{result_ok}
 use Rattle.site_types.specs.Lines.{line_of, read_line}
 use Rattle.vault_disk.specs.Disk.{Image as DiskImage}

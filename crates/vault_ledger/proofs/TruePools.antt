@@ -1,5 +1,5 @@
 -- A pool that holds what a ledger says of its unit is true where the unit is, and the other way round.
-use Rattle.desk_model.proofs.Common.{◌≡◌, ◌≢◌, ◌∙◌, ℕ, zero, suc, Bool, true, false, List, [], ◌∷◌, length, get_or, take, drop, map, not, ◌&&◌, ◌==◌, sym, refl, ap, arith, Option, Some, Contains, option_map_or, and_parts, bytes_eq, bytes_eq-Decides, get_or-map, get_or_default, length-map, nat_tests, text_is}
+use Rattle.desk_model.proofs.Common.{◌≡◌, ◌≢◌, ◌∙◌, ℕ, zero, suc, Bool, true, false, List, [], ◌∷◌, length, get_or, take, drop, map, not, ◌&&◌, ◌==◌, sym, refl, ap, arith, Option, Some, Contains, option_map_or, and_parts, false≢true, bytes_eq, bytes_eq-Decides, get_or-map, get_or_default, length-map, nat_tests, text_is}
 use Rattle.std.proofs.Common.{◌*◌, ◌<◌}
 use Rattle.std.proofs.lemmas.List.Folds.{Any-from_list_any, list_any_at, list_any_none}
 use Rattle.sha2.specs.Sha256.{sha256}
