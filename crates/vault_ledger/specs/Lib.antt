@@ -5,3 +5,4 @@ pub mod Pools
 pub mod Wellformed
 pub mod Keeping
 pub mod Copies
+pub mod Sealing

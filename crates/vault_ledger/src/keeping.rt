@@ -21,6 +21,7 @@ pub fn keep_pieces<F: Fingerprint>(pool: &mut Pool<F>, slots: &[u32], added: &mu
     ensures kept { (before : PoolState) (known : List Segment) (named : List ℕ) → HoldsLive known named before → PinnedEach before pool.old slots.now → HoldsLive (known ++ added.new.items) (named ++ slots.now) pool.new }
     ensures order { (before : PoolState) (known : List Segment) (named : List ℕ) → HoldsLive known named before → PinnedEach before pool.old slots.now → slots_in added.new.items ≡ unrecorded (slots_in known) slots.now }
     ensures fits { (before : PoolState) (known : List Segment) (named : List ℕ) → HoldsLive known named before → PinnedEach before pool.old slots.now → (s : Segment) → Contains added.new.items s → IsPlacedSegment before pool.old s }
+    ensures short { length added.new.items ≤ length slots.now }
     ensures same { IsSamePool pool.old pool.new }
 {
     for slot in slots {

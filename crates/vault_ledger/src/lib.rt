@@ -7,9 +7,11 @@
 mod adopting;
 mod copies;
 mod keeping;
+mod sealing;
 mod soundness;
 
 pub use adopting::{adopt, name_pieces};
 pub use copies::Copies;
 pub use keeping::keep_pieces;
+pub use sealing::seal_backup;
 pub use soundness::vaults_stand_sound;

@@ -23,6 +23,7 @@ loop-slot-preserved g c =
       pinned = pinned_next c.loop-slot.pool c.keep_piece.new.pool (get_or slots i 0) (drop (i + 1) slots) first.0 first.1 now pinned;
       few = counts_next _ _ _ first.0 (length slots - (i + 1)) (length slots - i) first.1 now (omega arith) so_far.few;
       room = omega (arith, so_far.room, c.keep_piece.ensures.room, c.keep_piece.ensures.short);
+      short = omega (arith, so_far.short, c.keep_piece.ensures.short);
       so_far = λ before known named placed. kept_at before c.args.pool.now known named slots placed i (get_or slots i 0) c.loop-slot.added.items c.keep_piece.new.added.items c.loop-slot.pool c.keep_piece.new.pool first.0 (omega arith) refl first.1 now
           (c.keep_piece.ensures.added first.0 first.1) (so_far.so_far before known named placed);
     }

@@ -13,5 +13,6 @@ invariant-loop-slot g l = record {
   pinned : ArePinned l.pool (drop l.slot-index l.slots);
   few : CountsFit (length l.slots - l.slot-index) l.pool;
   room : vec_len l.added + (length l.slots - l.slot-index) ≤ vec_capacity l.added;
+  short : vec_len l.added ≤ l.slot-index;
   so_far : (before : PoolState) (known : List NewSegment) (named : List ℕ) → IsPlacedOn before known named l.slots l.fn.pool → KeptSoFar before l.fn.pool known named l.slots (take l.slot-index l.slots) (drop l.slot-index l.slots) l.added.items l.pool;
 }
