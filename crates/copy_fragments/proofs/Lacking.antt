@@ -33,7 +33,7 @@ found_by : (piece : List ℕ) (x : List ℕ) (b c : Bool) (P : Type 0) → bytes
 found_by piece x true c P is so any = inl ((bytes_eq-Decides x piece).0 is)
 found_by piece x false c P is so any = inr (so any)
 
-found_in : (piece : List ℕ) (xs : List (List ℕ)) → list_any (λ p. bytes_eq p piece) xs ≡ true → In piece xs
+pub found_in : (piece : List ℕ) (xs : List (List ℕ)) → list_any (λ p. bytes_eq p piece) xs ≡ true → In piece xs
 found_in piece [] any = absurd (cc (any))
 found_in piece (x ∷ xs) any = found_by piece x (bytes_eq x piece) (list_any (λ p. bytes_eq p piece) xs) (In piece xs) refl (found_in piece xs) any
 
@@ -44,7 +44,7 @@ or_true : (b c : Bool) → c ≡ true → (b || c) ≡ true
 or_true true c is = refl
 or_true false c is = is
 
-any_in : (piece : List ℕ) (xs : List (List ℕ)) → In piece xs → list_any (λ p. bytes_eq p piece) xs ≡ true
+pub any_in : (piece : List ℕ) (xs : List (List ℕ)) → In piece xs → list_any (λ p. bytes_eq p piece) xs ≡ true
 any_in piece [] there = absurd there
 any_in piece (x ∷ xs) there = ⊎_elim
     (λ here. true_or (bytes_eq x piece) ((bytes_eq-Decides x piece).1 here) (list_any (λ p. bytes_eq p piece) xs))

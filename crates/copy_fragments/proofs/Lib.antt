@@ -8,3 +8,4 @@ pub mod Reading
 pub mod Refusing
 pub mod Taking
 pub mod WholeReading
+pub mod Fitting

@@ -42,7 +42,7 @@ times_at (x ∷ xs) slot some = ⊎_elim
     let behind = times_at xs slot (omega (arith, some, sum_by-cons (λ (s : ℕ). cond (s == slot) 1 0) x xs, other_time x slot (λ same. other (sym same)))) in
     (suc behind.0, behind.1)) (cases_eq x slot)
 
-push_at : (done : List ℕ) (slot index t : ℕ) → slice_get (done ++ slot ∷ []) index ≡ Some t → (slice_get done index ≡ Some t) ⊎ ((index ≡ length done) × (t ≡ slot))
+pub push_at : (done : List ℕ) (slot index t : ℕ) → slice_get (done ++ slot ∷ []) index ≡ Some t → (slice_get done index ≡ Some t) ⊎ ((index ≡ length done) × (t ≡ slot))
 push_at [] slot zero t is = let same : t ≡ slot = cc (is) in inr (refl, same)
 push_at [] slot (suc index) t is = inl is
 push_at (x ∷ xs) slot zero t is = inl is

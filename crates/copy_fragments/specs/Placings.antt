@@ -1,5 +1,5 @@
 -- The pieces of byte strings that a pool lacks, and what it is after they were placed.
-use Rattle.std.specs.Prelude.{◌≡◌, ℕ, ◌+◌, ◌<◌, ◌≤◌, ◌==◌, false, max, if◌then◌else◌, List, [], ◌∷◌, ◌++◌, length, Option, Some, None}
+use Rattle.std.specs.Prelude.{◌≡◌, ℕ, ◌+◌, ◌<◌, ◌≤◌, ◌==◌, false, max, if◌then◌else◌, List, [], ◌∷◌, ◌++◌, length, Option, Some, None, slice_get}
 use Rattle.std.specs.List.{count_by, list_any}
 use Rattle.std.specs.Str.{bytes_eq}
 use Rattle.vault_disk.specs.Disk.{Image}
@@ -43,6 +43,11 @@ pub record PinnedEach (old new : PoolState) (slots : List ℕ) : Type 0 where
   pub again : (slot : ℕ) (what : Slot) → held old slot ≡ Some what → held new slot ≡ Some (record what { pins = what.pins + times slot slots })
   pub others : (slot : ℕ) → held old slot ≡ None → times slot slots ≡ 0 → held new slot ≡ None
   pub placed : (slot : ℕ) → held old slot ≡ None → 1 ≤ times slot slots → (what : Slot) × (held new slot ≡ Some what) × (what.live ≡ false) × (what.pins ≡ times slot slots) × (what.count ≡ 0)
+
+-- the slot of each piece is held with the piece's length, and one that wasn't held is below the number of the pool's slots
+pub record FitPieces (old new : PoolState) (all : List (List ℕ)) (slots : List ℕ) : Type 0 where
+  pub lengths : (index slot : ℕ) (piece : List ℕ) → slice_get slots index ≡ Some slot → slice_get all index ≡ Some piece → (what : Slot) × (held new slot ≡ Some what) × (what.length ≡ length piece)
+  pub below : (slot : ℕ) (what : Slot) → held old slot ≡ None → held new slot ≡ Some what → slot < old.slots
 
 -- the copy of these bytes in these slots; its fragments have one piece each
 abbrev pub copy_in : List ℕ → CutBytes → Copy

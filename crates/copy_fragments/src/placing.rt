@@ -6,7 +6,7 @@ ghost use Rattle.segment_pool.specs.Placing.{IsTruePool, KeepsPieces, Touches};
 ghost use Rattle.segment_pool.specs.Faults.{IsDamage, IsDiskFault};
 ghost use Rattle.segment_pool.specs.Slots.{AreSound, IsAsBefore, IsPinnedAtMost, PoolState, number_held, spare};
 ghost use Rattle.copy_fragments.specs.Copies.{IsPlaced};
-ghost use Rattle.copy_fragments.specs.Placings.{HoldsMore, PinnedEach, PlacingFails, PlacingTold, copy_in, new_pieces};
+ghost use Rattle.copy_fragments.specs.Placings.{FitPieces, HoldsMore, PinnedEach, PlacingFails, PlacingTold, copy_in, new_pieces};
 ghost use Rattle.copy_fragments.specs.PlacingSteps.{ArePinned, HasPieces, IsDamageOf, PlacedSoFar, StaysTrue, UnpinnedEach};
 
 use crate::copy_map::piece_count;
@@ -29,6 +29,8 @@ pub fn place<V: Vault, F: Fingerprint>(
     requires size { cut.now.size ≡ pool.old.size }
     requires pins { (most : ℕ) × IsPinnedAtMost most pool.old × (most + length cut.now.bytes < 2 ^ 64 - 1) }
     ensures pinned { OnOk result ((placed : List ℕ) × (slots.new.items ≡ slots.old.items ++ placed) × PinnedEach pool.old pool.new placed × (length placed ≡ length (pieces cut.now.size cut.now.bytes))) }
+    ensures few { OnOk result (pool.old.slots ≤ 16777216) }
+    ensures fit { OnOk result ((placed : List ℕ) → slots.new.items ≡ slots.old.items ++ placed → FitPieces pool.old pool.new (pieces cut.now.size cut.now.bytes) placed) }
     ensures placed { (V.disk vault.old).tells → OnOk result ((placed : List ℕ) → slots.new.items ≡ slots.old.items ++ placed → IsPlaced F.digest_of pool.new (V.disk vault.new).seen (copy_in placed cut.now) cut.now.bytes) }
     ensures more { (V.disk vault.old).tells → IsTruePool F.digest_of pool.old (V.disk vault.old).seen → OnOk result (HoldsMore pool.old pool.new (new_pieces pool.old (V.disk vault.old).seen cut.now.bytes)) }
     ensures stays_true { (V.disk vault.old).tells → IsTruePool F.digest_of pool.old (V.disk vault.old).seen → OnOk result (IsTruePool F.digest_of pool.new (V.disk vault.new).seen) }
@@ -67,6 +69,7 @@ fn take_memory<F: Fingerprint>(
     ensures room { IfOk result (λ placed. (placed.items ≡ []) × (length (pieces cut.now.size cut.now.bytes) ≤ vec_capacity placed)) }
     ensures more { OnOk result (vec_len slots.new + length (pieces cut.now.size cut.now.bytes) ≤ vec_capacity slots.new) }
     ensures spare { OnOk result (length (pieces cut.now.size cut.now.bytes) ≤ spare pool.new) }
+    ensures few { OnOk result (pool.old.slots ≤ 16777216) }
     ensures sound { OnOk result (AreSound pool.new.size pool.new.table) }
     ensures some { OnOk result (1 ≤ cut.now.size) }
 {
@@ -104,6 +107,7 @@ fn place_each<V: Vault, F: Fingerprint>(
     requires room { length (pieces cut.now.size cut.now.bytes) ≤ vec_capacity placed.old }
     requires spare { length (pieces cut.now.size cut.now.bytes) ≤ spare pool.old }
     ensures slots { (start : PoolState) → IsAsBefore start pool.old → PlacedSoFar start pool.new placed.new.items }
+    ensures fit { (start : PoolState) → IsAsBefore start pool.old → OnOk result (FitPieces start pool.new (pieces cut.now.size cut.now.bytes) placed.new.items) }
     ensures all { OnOk result (length placed.new.items ≡ length (pieces cut.now.size cut.now.bytes)) }
     ensures pieces { (V.disk vault.old).tells → (start : PoolState) → IsAsBefore start pool.old → OnOk result (HasPieces F.digest_of start pool.new (V.disk vault.old) (V.disk vault.new) (pieces cut.now.size cut.now.bytes) placed.new.items) }
     ensures stays_true { (V.disk vault.old).tells → (start : PoolState) → IsAsBefore start pool.old → IsTruePool F.digest_of start (V.disk vault.old).seen → OnOk result (StaysTrue F.digest_of start pool.new (V.disk vault.old) (V.disk vault.new) (pieces cut.now.size cut.now.bytes) placed.new.items) }

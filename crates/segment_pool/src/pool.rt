@@ -74,6 +74,7 @@ impl<F: Fingerprint> Pool<F> {
     /// Makes room for so many new pieces.
     pub fn reserve(&mut self, alloc: Global, pieces: u32) -> Result<(), NoMemory>
         ensures room { OnOk result (pieces ≤ spare self.new) }
+        ensures few { self.old.slots ≤ 16777216 }
         ensures sound { AreSound self.new.size self.new.table }
         ensures same { IsAsBefore self.old self.new }
     {

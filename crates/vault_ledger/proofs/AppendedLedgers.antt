@@ -17,7 +17,7 @@ use Rattle.vault_ledger.proofs.KeptLedgers.{stands_too}
 pub pieces_beside : (c d : DiskImage) (l : Ledger) → ((g : ℕ) → g ≢ 0 → c g ≡ d g) → (unit : List ℕ) → pieces_on c l unit ≡ pieces_on d l unit
 pieces_beside c d l others unit = ap (λ (file : List ℕ). map (piece_in file (segment_of unit l.outline)) (live_on unit l.live)) (others (pool_file unit l.outline) (λ is. absurd (omega arith)))
 
-recorded_push : (at : ℕ) (o : Option Ledger) (fs : List Found) (end : ℕ) (r : Record) (l m : Ledger) → recorded_from at o fs ≡ Ok l → recorded l r.entry ≡ Some m → recorded_from at o (with_one fs end r) ≡ Ok m
+pub recorded_push : (at : ℕ) (o : Option Ledger) (fs : List Found) (end : ℕ) (r : Record) (l m : Ledger) → recorded_from at o fs ≡ Ok l → recorded l r.entry ≡ Some m → recorded_from at o (with_one fs end r) ≡ Ok m
 recorded_push at None fs end r l m is fits = absurd (cc is)
 recorded_push at (Some k) [] end r l m is fits =
     let same : k ≡ l = cc is in

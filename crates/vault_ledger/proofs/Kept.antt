@@ -189,14 +189,14 @@ module _ (start old : PoolState) (live : List NewSegment) (named rest : List ℕ
 
 -- The order of what is recorded.
 
-any_slot : (slot : ℕ) (segments : List NewSegment) → list_any (λ (s : ℕ). s == slot) (slots_in segments) ≡ has_slot slot segments
+pub any_slot : (slot : ℕ) (segments : List NewSegment) → list_any (λ (s : ℕ). s == slot) (slots_in segments) ≡ has_slot slot segments
 any_slot slot [] = refl
 any_slot slot (s ∷ segments) = ap (λ (b : Bool). (s.slot == slot) || b) (any_slot slot segments)
 
-recorded_slot : (slot : ℕ) (live : List NewSegment) (rest : List ℕ) → has_slot slot live ≡ true → unrecorded (slots_in live) (slot ∷ rest) ≡ unrecorded (slots_in live) rest
+pub recorded_slot : (slot : ℕ) (live : List NewSegment) (rest : List ℕ) → has_slot slot live ≡ true → unrecorded (slots_in live) (slot ∷ rest) ≡ unrecorded (slots_in live) rest
 recorded_slot slot live rest there = cond-true (list_any (λ (s : ℕ). s == slot) (slots_in live)) _ _ (any_slot slot live ∙ there)
 
-unrecorded_slot : (s : NewSegment) (live : List NewSegment) (rest : List ℕ) → has_slot s.slot live ≡ false → unrecorded (slots_in live) (s.slot ∷ rest) ≡ s.slot ∷ unrecorded (slots_in (live ++ s ∷ [])) rest
+pub unrecorded_slot : (s : NewSegment) (live : List NewSegment) (rest : List ℕ) → has_slot s.slot live ≡ false → unrecorded (slots_in live) (s.slot ∷ rest) ≡ s.slot ∷ unrecorded (slots_in (live ++ s ∷ [])) rest
 unrecorded_slot s live rest none =
     cond-false (list_any (λ (t : ℕ). t == s.slot) (slots_in live)) _ _ (any_slot s.slot live ∙ none)
     ∙ ap (λ (l : List ℕ). s.slot ∷ unrecorded l rest) (sym (map-append (λ (r : NewSegment). r.slot) live (s ∷ [])))

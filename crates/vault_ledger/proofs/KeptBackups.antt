@@ -61,12 +61,12 @@ added_so size known (new ∷ added) fits s (suc k, lt, is) =
 
 -- Placements.
 
-slots_own : (new : Placement) (placements : List Placement) → slots_of new.id new.copy (new ∷ placements) ≡ new.slots
+pub slots_own : (new : Placement) (placements : List Placement) → slots_of new.id new.copy (new ∷ placements) ≡ new.slots
 slots_own new placements =
     let copy : (new.copy == new.copy) ≡ true = grind (arith, nat_tests) in
     λ i. option_map_or (λ (p : Placement). p.slots) (cond (same_self new.id i && copy i) (Some new) (find (λ p. same_id p.id new.id && p.copy == new.copy) placements)) []
 
-slots_other : (new : Placement) (id : BackupId) (copy : ℕ) (placements : List Placement) → same_id new.id id ≡ false → slots_of id copy (new ∷ placements) ≡ slots_of id copy placements
+pub slots_other : (new : Placement) (id : BackupId) (copy : ℕ) (placements : List Placement) → same_id new.id id ≡ false → slots_of id copy (new ∷ placements) ≡ slots_of id copy placements
 slots_other new id copy placements differs =
     λ i. option_map_or (λ (p : Placement). p.slots) (cond (differs i && (new.copy == copy)) (Some new) (find (λ p. same_id p.id id && p.copy == copy) placements)) []
 

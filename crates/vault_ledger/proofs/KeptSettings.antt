@@ -81,12 +81,12 @@ module _ (l : Ledger) (kept : IsLedger l) where
         live = λ s among.
             let here = kept.live s among in
             let there = stay s.unit here.unit in
-            record { unit = there.0; slot = here.slot; some = here.some; size = subst (λ (size : ℕ). s.segment.length ≤ size) (sym (ap (λ (p : ℕ × ℕ). p.1) there.1)) here.size };
+            record { unit = there.0; slot = here.slot; some = here.some; size = subst (λ (size : ℕ). s.segment.length ≤ size) (sym (ap (λ (p : ℕ × ℕ × ℕ). p.1) there.1)) here.size };
         slots = kept.slots;
         images = λ image among.
             let here = kept.images image among in
             let there = stay here.copy.unit here.unit in
-            record { copy = here.copy; only = here.only; unit = there.0; pieces = ap (λ (size : ℕ). pieces_fit size (live_on here.copy.unit l.live) image.entry.length (slots_of image.entry.id here.copy.number l.placements)) (ap (λ (p : ℕ × ℕ). p.1) there.1) ∙ here.pieces };
+            record { copy = here.copy; only = here.only; unit = there.0; pieces = ap (λ (size : ℕ). pieces_fit size (live_on here.copy.unit l.live) image.entry.length (slots_of image.entry.id here.copy.number l.placements)) (ap (λ (p : ℕ × ℕ × ℕ). p.1) there.1) ∙ here.pieces };
       }
 
 -- Lines.

@@ -12,7 +12,7 @@ use Rattle.vault_ledger.specs.Wellformed.{IsLedger, set_units}
 use Rattle.vault_ledger.proofs.KeptBackups.{in_mapped}
 
 -- an element that is left passes the test
-in_filtered : {A : Type 0} (test : A → Bool) (xs : List A) (x : A) → Contains (filter test xs) x → Contains xs x × (test x ≡ true)
+pub in_filtered : {A : Type 0} (test : A → Bool) (xs : List A) (x : A) → Contains (filter test xs) x → Contains xs x × (test x ≡ true)
 in_filtered test [] x (k, lt, is) = absurd (omega arith)
 in_filtered {A} test (y ∷ ys) x among = at (test y) refl (in_filtered test ys x) among
   where
@@ -20,6 +20,10 @@ in_filtered {A} test (y ∷ ys) x among = at (test y) refl (in_filtered test ys 
     at true passes later (zero, lt, is) = ((zero, omega arith, is), ap test (sym is) ∙ passes)
     at true passes later (suc k, lt, is) = let there = later (k, omega arith, is) in ((suc there.0.0, let inside = there.0.1 in omega (arith, inside), there.0.2), there.1)
     at false fails later rest = let there = later rest in ((suc there.0.0, let inside = there.0.1 in omega (arith, inside), there.0.2), there.1)
+
+pub nothing : {A : Type 0} (xs : List A) → ((x : A) → Contains xs x → ⊥) → xs ≡ []
+nothing [] never = refl
+nothing (x ∷ xs) never = absurd (never x (zero, omega arith, refl))
 
 -- sets of the same units stand alike
 pub units_alike : (sets sets' : List Stored) → set_units sets ≡ set_units sets' → (u : StorageUnit) → HasSet sets u → HasSet sets' u
@@ -76,10 +80,6 @@ module _ (l : Ledger) (kept : IsLedger l) where
       let one = in_mapped (λ (t : LiveSlot). t.segment) (filter (λ t. bytes_eq t.unit unit) l.live) s among in
       let there = in_filtered (λ (t : LiveSlot). bytes_eq t.unit unit) l.live one.0 one.1 in
       false≢true (sym absent ∙ subst (λ (name : List ℕ). has unit_name name units ≡ true) (text_is one.0.unit unit there.1) (kept.live one.0 there.0).unit))
-    where
-      nothing : (known : List NewSegment) → ((s : NewSegment) → Contains known s → ⊥) → known ≡ []
-      nothing [] never = refl
-      nothing (s ∷ known) never = absurd (never s (zero, omega arith, refl))
 
   -- its segments have some bytes
   pub some_segment : (unit : List ℕ) → has unit_name unit units ≡ true → 1 ≤ segment_of unit l.outline

@@ -24,3 +24,13 @@ pub mod TouchedPools
 pub mod TruePools
 pub mod PoolLedgers
 pub mod SyncedPools
+pub mod NamedImages
+pub mod FollowedBackups
+pub mod PlacedPieces
+pub mod RecordedBackups
+pub mod HeldSlots
+pub mod SealedBackups
+pub mod FollowedSettings
+pub mod FittedPools
+pub mod UnitPools
+pub mod KnownLedgers

@@ -35,7 +35,7 @@ module _ (c : DiskImage) (l : Ledger) (there : AreThere l) (r : Request) (none :
       at : (copies : List CopyRecord) → ((copy : CopyRecord) → Contains copies copy → has unit_name copy.unit l.outline.site.book.units ≡ true) → bytes_by c l image.entry copies ≡ bytes_by c after image.entry copies
       at [] known = refl
       at (copy ∷ copies) known =
-          ap (λ (p : ℕ × ℕ). spelled (c (2 + p.0)) p.1 image.entry.length (slots_of image.entry.id copy.number l.placements)) (sym (places_stay r l.outline none copy.unit (known copy (0, omega arith, refl))).1)
+          ap (λ (p : ℕ × ℕ × ℕ). spelled (c (2 + p.0)) p.1 image.entry.length (slots_of image.entry.id copy.number l.placements)) (sym (places_stay r l.outline none copy.unit (known copy (0, omega arith, refl))).1)
 
   same_images : (images : List Image) → ((i : Image) → Contains images i → Contains l.outline.images i) → map (image_over c l) images ≡ map (image_over c after) images
   same_images [] among = refl
@@ -47,7 +47,7 @@ module _ (c : DiskImage) (l : Ledger) (there : AreThere l) (r : Request) (none :
   same_sets : (sets : List Stored) → ((set : Stored) → Contains sets set → Contains l.outline.stored set) → map (set_over c l) sets ≡ map (set_over c after) sets
   same_sets [] among = refl
   same_sets (set ∷ sets) among =
-      let here = ap (λ (p : ℕ × ℕ). record { unit = set.unit; pieces = map (piece_in (c (2 + p.0)) p.1) (live_on set.unit l.live) }) (sym (places_stay r l.outline none set.unit (there.sets set (among set (0, omega arith, refl)))).1) in
+      let here = ap (λ (p : ℕ × ℕ × ℕ). record { unit = set.unit; pieces = map (piece_in (c (2 + p.0)) p.1) (live_on set.unit l.live) }) (sym (places_stay r l.outline none set.unit (there.sets set (among set (0, omega arith, refl)))).1) in
       let later = same_sets sets (λ other has. among other (suc has.0, omega (arith, has.1), has.2)) in
       λ k. here k ∷ later k
 

@@ -6,9 +6,9 @@ use Rattle.policy_book.specs.Requests.{book_after}
 use Rattle.desk_model.proofs.NamedLemmas.{has-put, has-changed, named-changed, some_named}
 use Rattle.desk_model.proofs.Passing.{all_passed}
 
--- where a unit's pool is, and the size of its segments
-abbrev pub place : StorageUnit → ℕ × ℕ
-place u = (u.number, u.segment)
+-- where a unit's pool is, the size of its segments, and how many a fragment has
+abbrev pub place : StorageUnit → ℕ × ℕ × ℕ
+place u = (u.number, u.segment, u.fragment)
 
 -- units that were there still are, and have their pools where they were
 abbrev pub PlacesStay : Book → Book → Type 0

@@ -10,6 +10,12 @@ use Rattle.vault_ledger.specs.Ledger.{Ledger, all_recorded, are_true, pieces_on,
 pub record KeepsLive (disk : Disk) (l : Ledger) : Type 0 where
   pub each : (c : DiskImage) → disk.may_leave c → (unit : List ℕ) → pieces_on c l unit ≡ pieces_on disk.seen l unit
 
+-- the journal is at rest, and its records make this ledger
+pub record SaysLedger (disk : Disk) (end : ℕ) (l : Ledger) : Type 0 where
+  pub records : List Found
+  pub rest : AtRest disk end records
+  pub says : all_recorded records ≡ Ok l
+
 -- the journal is at rest, its records make this ledger, the pools are true, and a stop takes nothing of them away
 pub record KeptLedger (disk : Disk) (end : ℕ) (l : Ledger) : Type 0 where
   pub records : List Found

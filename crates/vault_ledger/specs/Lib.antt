@@ -6,3 +6,4 @@ pub mod Wellformed
 pub mod Keeping
 pub mod Copies
 pub mod Sealing
+pub mod Storage

@@ -1,5 +1,5 @@
 // The copies of images.
-ghost use Rattle.std.specs.Prelude.{◌≡◌, None, Some, OnOk, OnErr};
+ghost use Rattle.std.specs.Prelude.{◌≡◌, true, is_some, None, Some, OnOk, OnErr};
 ghost use Rattle.std.specs.Option.{option_copied};
 ghost use Rattle.site_types.specs.declared.id.BackupId.{BackupId as Id};
 ghost use Rattle.vault_ledger.specs.Copies.{copy_of, Sets};
@@ -50,6 +50,17 @@ impl Copies {
     {
         self.copies.insert(id, copy)?;
         Ok(())
+    }
+
+    /// Puts a copy in the place of the one that is there. It takes no memory.
+    pub fn fill(&mut self, id: &BackupId, copy: CopyMap)
+        requires there { is_some (copy_of id.now self.old) ≡ true }
+        ensures { Sets id.now (Some copy) self.old self.new }
+    {
+        let Some(place) = self.copies.get_mut(id) else {
+            unreachable!()
+        };
+        *place = copy;
     }
 
     /// Takes the copy of an image out.

@@ -9,9 +9,12 @@ mod copies;
 mod keeping;
 mod sealing;
 mod soundness;
+mod storage;
+mod unit_pools;
 
 pub use adopting::{adopt, name_pieces};
 pub use copies::Copies;
 pub use keeping::keep_pieces;
 pub use sealing::seal_backup;
 pub use soundness::vaults_stand_sound;
+pub use storage::Storage;

@@ -1,9 +1,9 @@
 // A backup's bytes in its unit's pool, and their record in the journal.
-ghost use Rattle.std.specs.Prelude.{◌≡◌, ◌≢◌, ◌+◌, ◌-◌, ◌*◌, ◌<◌, ◌≤◌, ◌^◌, ◌++◌, [], ℕ, List, length, vec_capacity, IfOk, IfErr, OnOk, OnErr};
+ghost use Rattle.std.specs.Prelude.{◌≡◌, ◌≢◌, ◌+◌, ◌-◌, ◌*◌, ◌<◌, ◌≤◌, ◌^◌, ◌++◌, [], ℕ, List, length, true, vec_capacity, IfOk, IfErr, OnOk, OnErr};
 ghost use Rattle.sha2.specs.Sha256.{sha256};
 ghost use Rattle.site_types.specs.declared.image.Base.TheVariants as base;
-ghost use Rattle.vault_disk.specs.Disk.{IsSame};
-ghost use Rattle.vault_disk.specs.Steps.{Rose, Synced};
+ghost use Rattle.vault_disk.specs.Disk.{During, Image, IsSame, Now};
+ghost use Rattle.vault_disk.specs.Steps.{Rests, Rose};
 ghost use Rattle.pool_journal.specs.Records.{Found};
 ghost use Rattle.pool_journal.specs.Stops.{AtRest, Appended, Stops};
 ghost use Rattle.pool_journal.specs.declared.segments.NewSegment.{NewSegment as Segment};
@@ -15,7 +15,11 @@ ghost use Rattle.copy_fragments.specs.Placings.{PlacingFails, PlacingTold, new_p
 ghost use Rattle.desk_model.specs.Pieces.{piece_limit};
 ghost use Rattle.vault_ledger.specs.Following.{CountsFit, IsSamePool};
 ghost use Rattle.vault_ledger.specs.Pools.{HoldsLive, slots_in, unrecorded};
-ghost use Rattle.vault_ledger.specs.Sealing.{HasRoom, IsWithin, backup_record};
+ghost use Rattle.vault_ledger.specs.Fitting.{image_fits};
+ghost use Rattle.vault_ledger.specs.Keeping.{Between, KeptLedger, SaysLedger};
+ghost use Rattle.vault_ledger.specs.Ledger.{Ledger, backup_fits, segments_fit, spelled, state_over, with_backup};
+ghost use Rattle.vault_ledger.specs.Sealing.{HasRoom, HasSlots, IsPoolFor, IsSealed, IsToRecord, IsUnsealed, IsWithin, SealingFails, backup_record, state_sealed};
+ghost use Rattle.vault_ledger.specs.Wellformed.{IsLedger};
 
 use crate::keeping::keep_pieces;
 use copy_fragments::{piece_count, place};
@@ -50,6 +54,12 @@ pub fn seal_backup<V: Vault>(
     requires few { length (pieces cut.now.size cut.now.bytes) ≤ piece_limit }
     requires pins { (most : ℕ) × IsPinnedAtMost most pool.old × (most + length cut.now.bytes < 2 ^ 64 - 1) }
     requires counts { CountsFit (length (pieces cut.now.size cut.now.bytes)) pool.old }
+    ensures sealed { (l : Ledger) → IsLedger l → image_fits l.outline image ≡ true → image.length ≡ length cut.now.bytes → IsPoolFor l image pool.old → IfOk result (λ slots. IsSealed l image cut.now.bytes (V.disk vault.old) (V.disk vault.new) journal.old journal.new pool.new slots.items) }
+    ensures unsealed { (l : Ledger) → IsLedger l → image_fits l.outline image ≡ true → image.length ≡ length cut.now.bytes → IsPoolFor l image pool.old → IfErr result (λ fault. ¬ IsDiskFault fault → IsUnsealed l (V.disk vault.old) (V.disk vault.new) journal.old journal.new) }
+    ensures between { (l : Ledger) → IsLedger l → image_fits l.outline image ≡ true → image.length ≡ length cut.now.bytes → IsPoolFor l image pool.old → (V.disk vault.old).tells → KeptLedger (V.disk vault.old) journal.old l → Between (state_over (V.disk vault.old).seen l) (state_sealed (state_over (V.disk vault.old).seen l) image cut.now.bytes) (V.disk vault.old) (V.disk vault.new) }
+    ensures unfailed { (l : Ledger) → IsLedger l → image_fits l.outline image ≡ true → image.length ≡ length cut.now.bytes → IsPoolFor l image pool.old → (V.disk vault.old).tells → KeptLedger (V.disk vault.old) journal.old l → IfErr result (SealingFails pool.old.slots (state_over (V.disk vault.old).seen l) image cut.now.bytes) }
+    ensures slots { (l : Ledger) → IsLedger l → image_fits l.outline image ≡ true → image.length ≡ length cut.now.bytes → IsPoolFor l image pool.old → (V.disk vault.old).tells → KeptLedger (V.disk vault.old) journal.old l → OnOk result (HasSlots pool.old.slots (state_over (V.disk vault.old).seen l) image cut.now.bytes) }
+    ensures pool { IsSamePool pool.old pool.new }
     ensures number { IfOk result (λ slots. length slots.items ≡ length (pieces cut.now.size cut.now.bytes)) }
     ensures refused { IfErr result (λ fault. ¬ IsDiskFault fault → IsAsBefore pool.old pool.new × (journal.new ≡ journal.old)) }
     ensures cause { IfErr result (λ fault. ¬ IsDamage fault → PlacingFails pool.old (V.disk vault.old).faults (V.disk vault.new).faults fault) }
@@ -58,13 +68,12 @@ pub fn seal_backup<V: Vault>(
 {
     let (room, mut added, mut pieces) = take_memory(alloc, cut)?;
     let slots = store_pieces(alloc, pool, vault, cut, &mut added)?;
-    sync_added(vault, file, &added)?;
     copy_slots(&slots, &mut pieces);
     let segments = Segments {
         added: ListOf::from_vec(added),
         pieces: ListOf::from_vec(pieces),
     };
-    write_backup(journal, vault, room, image, segments)?;
+    record_backup(journal, vault, file, room, image, segments)?;
     Ok(slots)
 }
 
@@ -120,6 +129,10 @@ fn store_pieces<V: Vault>(
     ensures number { IfOk result (λ slots. length slots.items ≡ length (pieces cut.now.size cut.now.bytes)) }
     ensures few { OnOk result (length added.new.items ≤ length (pieces cut.now.size cut.now.bytes)) }
     ensures kept { (known : List Segment) (named : List ℕ) → HoldsLive known named pool.old → IfOk result (λ slots. HoldsLive (known ++ added.new.items) (named ++ slots.items) pool.new × (slots_in added.new.items ≡ unrecorded (slots_in known) slots.items)) }
+    ensures fit { (known : List Segment) (named : List ℕ) → 1 ≤ pool.old.size → HoldsLive known named pool.old → IfOk result (λ slots. segments_fit pool.old.size known (length cut.now.bytes) (record { added = added.new.items; pieces = slots.items }) ≡ true) }
+    ensures spells { (V.disk vault.old).tells → 1 ≤ pool.old.size → IfOk result (λ slots. spelled ((V.disk vault.new).seen pool.old.file) pool.old.size (length cut.now.bytes) slots.items ≡ cut.now.bytes) }
+    ensures stays_true { (known : List Segment) (named : List ℕ) → (V.disk vault.old).tells → HoldsLive known named pool.old → IsTruePool sha256 pool.old (V.disk vault.old).seen → OnOk result (IsTruePool sha256 pool.new (V.disk vault.new).seen) }
+    ensures seen { (V.disk vault.old).tells → OnOk result ((most : ℕ) × KeepsPieces pool.old most (V.disk vault.old).seen (V.disk vault.new).seen) }
     ensures pool { IsSamePool pool.old pool.new }
     ensures refused { OnErr result (IsAsBefore pool.old pool.new) }
     ensures fits { (V.disk vault.old).tells → IsTruePool sha256 pool.old (V.disk vault.old).seen → OnOk result (IsWithin pool.old (new_pieces pool.old (V.disk vault.old).seen cut.now.bytes)) }
@@ -138,10 +151,34 @@ fn store_pieces<V: Vault>(
     Ok(slots)
 }
 
+// Makes the pieces of a backup's new segments durable, and then writes its record.
+fn record_backup<V: Vault>(
+    journal: &mut Journal,
+    vault: &mut V,
+    file: u32,
+    room: Room,
+    image: WholeImage,
+    segments: Segments,
+) -> Result<(), Failed>
+    requires base { image.base ≢ base.Time 0 }
+    requires few { length segments.pieces ≤ piece_limit }
+    requires fewer { length segments.added ≤ length segments.pieces }
+    requires room { HasRoom (length segments.pieces) room }
+    ensures says { (l : Ledger) → (V.disk vault.old).tells → backup_fits l image segments ≡ true → SaysLedger (V.disk vault.old) journal.old l → OnOk result (SaysLedger (V.disk vault.new) journal.new (with_backup image segments l)) }
+    ensures kept { (l : Ledger) → (V.disk vault.old).tells → IsToRecord l image segments file (V.disk vault.old).seen → KeptLedger (V.disk vault.old) journal.old l → OnOk result (KeptLedger (V.disk vault.new) journal.new (with_backup image segments l) × (state_over (V.disk vault.new).seen (with_backup image segments l) ≡ state_over (V.disk vault.old).seen (with_backup image segments l))) }
+    ensures between { (l : Ledger) → (V.disk vault.old).tells → IsToRecord l image segments file (V.disk vault.old).seen → KeptLedger (V.disk vault.old) journal.old l → Between (state_over (V.disk vault.old).seen l) (state_over (V.disk vault.old).seen (with_backup image segments l)) (V.disk vault.old) (V.disk vault.new) }
+    ensures same { IsSame (V.disk vault.old) (V.disk vault.new) }
+    ensures failed { OnErr result (Rose (V.disk vault.old).faults (V.disk vault.new).faults) }
+{
+    sync_added(vault, file, segments.added.as_slice())?;
+    write_backup(journal, vault, room, image, segments)
+}
+
 // Makes the pieces of new segments durable, where there are any.
 fn sync_added<V: Vault>(vault: &mut V, file: u32, added: &[NewSegment]) -> Result<(), Failed>
-    ensures none { added.now ≡ [] → vault.new ≡ vault.old }
-    ensures synced { added.now ≢ [] → (V.disk vault.old).tells → Synced file (V.disk vault.old) (V.disk vault.new) result }
+    ensures durable { added.now ≢ [] → (V.disk vault.old).tells → OnOk result ((c : Image) → (V.disk vault.new).may_leave c → c file ≡ (V.disk vault.old).seen file) }
+    ensures rests { (V.disk vault.old).tells → Rests (V.disk vault.old) (V.disk vault.new) }
+    ensures during { (V.disk vault.old).tells → During (V.disk vault.old) (V.disk vault.new) (Now (V.disk vault.new)) }
     ensures same { IsSame (V.disk vault.old) (V.disk vault.new) }
     ensures failed { OnErr result (Rose (V.disk vault.old).faults (V.disk vault.new).faults) }
 {

@@ -1,7 +1,8 @@
 use Rattle.std.proofs.Common.{◌≡◌, ℕ, ◌++◌, List, sym, ◌∙◌, subst}
 use Rattle.std.proofs.lemmas.List.{append_cancel_left}
+use Rattle.segment_pool.specs.Pieces.{pieces}
 use Rattle.copy_fragments.specs.Copies.{IsPlaced}
-use Rattle.copy_fragments.specs.Placings.{copy_in}
+use Rattle.copy_fragments.specs.Placings.{FitPieces, copy_in}
 use Rattle.copy_fragments.specs.PlacingSteps.{ArePinned, UnpinnedEach}
 use Rattle.copy_fragments.proofs.Answered.{all_placed, holds_more, ok_there}
 use Rattle.copy_fragments.proofs.Pinning.{are_pinned, as_before, sound_before}
@@ -21,6 +22,14 @@ returns-in-Err-clause-refused g c =
 
 pub returns-in-Err-clause-seen_refused : goal.returns-in-Err-clause-seen_refused
 returns-in-Err-clause-seen_refused g c = λ told. c.in-Err.ensures.seen_refused told c.args.pool.now c.take_memory.ensures.pool
+
+pub returns-clause-fit : goal.returns-clause-fit
+returns-clause-fit g c = λ placed is.
+    let items : c.extend_from_slice.new.self.items ≡ c.args.slots.now.items ++ c.place_each.new.placed.items =
+    c.in-Ok.ensures.items ∙ (λ i. c.take_memory.ensures.slots i ++ c.deref-2.ensures.value i) in
+    let same : c.place_each.new.placed.items ≡ placed = append_cancel_left c.args.slots.now.items c.place_each.new.placed.items placed (sym items ∙ is) in
+    subst (λ (l : List ℕ). FitPieces c.args.pool.now c.place_each.new.pool (pieces c.args.cut.now.size c.args.cut.now.bytes) l) same
+    (ok_there c.place_each.result c.in_default.not-Err (c.place_each.ensures.fit c.args.pool.now c.take_memory.ensures.pool))
 
 pub returns-clause-placed : goal.returns-clause-placed
 returns-clause-placed g c = λ told placed is.

@@ -8,8 +8,9 @@ use Rattle.segment_pool.specs.Placing.{KeepsPieces}
 use Rattle.segment_pool.specs.Slots.{number_held}
 use Rattle.segment_pool.specs.declared.fault.PoolFault.TheVariants as fault
 use Rattle.segment_pool.proofs.Changes.{as_before_self}
-use Rattle.copy_fragments.specs.Placings.{PlacingFails, PlacingTold, held_pieces, lacking}
+use Rattle.copy_fragments.specs.Placings.{FitPieces, PlacingFails, PlacingTold, held_pieces, lacking}
 use Rattle.copy_fragments.specs.PlacingSteps.{HasPieces, IsDamageOf, PlacedSoFar, StaysTrue}
+use Rattle.copy_fragments.proofs.Fitting.{fit_on}
 use Rattle.copy_fragments.proofs.Kept.{few_pieces, piece_bounds}
 use Rattle.copy_fragments.proofs.Pinning.{few_pins}
 use Rattle.copy_fragments.proofs.Progress.{placed_before, placed_on, spare_on}
@@ -118,6 +119,8 @@ loop-piece-preserved g c =
       same = same_on i.same c.find_or_place.ensures.same;
       slots = λ start before. subst (λ (l : List ℕ). PlacedSoFar start c.find_or_place.new.self l) (sym items)
           (placed_on start c.loop-piece.pool c.find_or_place.new.self c.in_ok-slot.slot (length c.in-Some.piece.0.now) c.in-Some.piece.1 c.loop-piece.placed.items (i.slots start before) c.in_ok-slot.ensures.pinned);
+      fit = λ start before. subst (λ (l : List ℕ). FitPieces start c.find_or_place.new.self (pieces c.args.cut.now.size c.args.cut.now.bytes) l) (sym items)
+          (fit_on start c.loop-piece.pool c.find_or_place.new.self c.in_ok-slot.slot c.in-Some.piece.0.now c.in-Some.piece.1 (pieces c.args.cut.now.size c.args.cut.now.bytes) c.loop-piece.placed.items (i.slots start before) (i.fit start before) here c.in_ok-slot.ensures.pinned);
       has = λ told start before. subst (λ (l : List ℕ). HasPieces g.F.Fingerprint.digest_of start c.find_or_place.new.self (g.V.Vault.disk c.args.vault.now) (g.V.Vault.disk c.find_or_place.new.vault) (pieces c.args.cut.now.size c.args.cut.now.bytes) l) (sym items)
           (has_on g.F.Fingerprint.digest_of c.loop-piece.pool c.find_or_place.new.self (g.V.Vault.disk c.loop-piece.vault) (g.V.Vault.disk c.find_or_place.new.vault) c.in_ok-slot.slot c.in-Some.piece.0.now c.in-Some.piece.1 (taken told) start (g.V.Vault.disk c.args.vault.now) _ c.loop-piece.placed.items (i.slots start before) (i.has told start before) i.same here);
       stays_true = λ told start before true_pool. let stays = i.stays_true told start before true_pool in
