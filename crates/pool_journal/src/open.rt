@@ -7,7 +7,7 @@
 ghost use Rattle.std.specs.Prelude.{◌≡◌, ◌≤◌, ◌<◌, length, nat_eq, false, IfOk, IfErr, IsErrOf, MatchResult};
 ghost use Rattle.std.specs.List.{starts_with, common_prefix_len};
 ghost use Rattle.vault_disk.specs.Disk.{IsSame};
-ghost use Rattle.vault_disk.specs.Steps.{HasCause, IsDurable, Rose};
+ghost use Rattle.vault_disk.specs.Steps.{HasCause, IsDurable, LookedAround, Rose};
 ghost use Rattle.pool_journal.specs.Records.{header, reading, placed, IsToldOf};
 ghost use Rattle.pool_journal.specs.Stops.{IsOpened, IsForeign, Leaves, OpenStops, SameReading, Begins};
 
@@ -39,6 +39,8 @@ impl Journal {
         ensures found { (V.disk vault.old).tells → IfOk result (λ o. IsOpened (reading ((V.disk vault.old).seen 0)) (V.disk vault.new) o.journal o.entries.items o.bad) }
         ensures not_a_vault { (V.disk vault.old).tells → IfErr result (IsForeign (reading ((V.disk vault.old).seen 0))) }
         ensures stops { (V.disk vault.old).tells → OpenStops (V.disk vault.old) (V.disk vault.new) }
+        // Of a vault that isn't new nothing is written.
+        ensures looked { (V.disk vault.old).tells → 17 < length ((V.disk vault.old).seen 0) → LookedAround (V.disk vault.old) (V.disk vault.new) }
         ensures same { IsSame (V.disk vault.old) (V.disk vault.new) }
         ensures failed { IsErrOf result JournalFault.DiskFault → Rose (V.disk vault.old).faults (V.disk vault.new).faults }
     {
@@ -51,6 +53,7 @@ impl Journal {
         ensures found { (V.disk vault.old).tells → IsDurable 0 (V.disk vault.old) → IfOk result (λ o. IsOpened (reading ((V.disk vault.old).seen 0)) (V.disk vault.new) o.journal o.entries.items o.bad) }
         ensures not_a_vault { (V.disk vault.old).tells → IfErr result (IsForeign (reading ((V.disk vault.old).seen 0))) }
         ensures stops { (V.disk vault.old).tells → IsDurable 0 (V.disk vault.old) → Leaves (SameReading (V.disk vault.old)) (V.disk vault.old) (V.disk vault.new) }
+        ensures looked { (V.disk vault.old).tells → 17 < length ((V.disk vault.old).seen 0) → LookedAround (V.disk vault.old) (V.disk vault.new) }
         ensures same { IsSame (V.disk vault.old) (V.disk vault.new) }
         ensures failed { IsErrOf result JournalFault.DiskFault → Rose (V.disk vault.old).faults (V.disk vault.new).faults }
     {

@@ -1,5 +1,5 @@
 -- What is known of where the bytes of images stand follows a ledger's backup: the unit's pool has its segments, and there is one copy more.
-use Rattle.desk_model.proofs.Common.{◌≡◌, ◌≢◌, ◌≤◌, ◌+◌, ◌-◌, ◌∙◌, ⊎_elim, ℕ, zero, suc, min, Bool, true, false, List, [], ◌∷◌, ◌++◌, length, refl, sym, ap, subst, arith, Option, Some, None, unwrap_or, if◌then◌else◌, cond, ◌&&◌, ◌==◌, nat_lt, slice_get, Contains, bytes_eq, bytes_eq-Decides, false≢true, and_parts, nat_tests, length-set, BackupId, CopyRecord, StorageUnit, named, has, Book, unit_name, disk0, same_id, piece_count, piece_limit, Image, image_named, with_image, unit_at, text_is}
+use Rattle.desk_model.proofs.Common.{◌≡◌, ◌≢◌, ◌≤◌, ◌+◌, ◌-◌, ◌∙◌, ⊎_elim, ℕ, zero, suc, min, Bool, true, false, List, [], ◌∷◌, ◌++◌, length, refl, sym, ap, subst, arith, Option, Some, None, unwrap_or, if◌then◌else◌, cond, ◌&&◌, ◌==◌, nat_lt, slice_get, Contains, bytes_eq, bytes_eq-Decides, and_parts, nat_tests, length-set, BackupId, CopyRecord, StorageUnit, has, Book, unit_name, disk0, same_id, piece_count, piece_limit, Image, image_named, unit_at, text_is}
 use Rattle.std.specs.Prelude.{◌*◌, ◌/◌, ◌%◌, filter, flat_map, slice_set}
 use Rattle.std.proofs.lemmas.Bool.{cases_eq, cases_lt}
 use Rattle.std.proofs.lemmas.Grind.{div_ceil_times}
@@ -24,8 +24,6 @@ use Rattle.vault_ledger.specs.Following.{IsSamePool}
 use Rattle.vault_ledger.specs.Ledger.{Ledger, Placement, backup_fits, has_piece, live_on, named_on, pieces_fit, recorded, segment_of, slots_of, with_backup}
 use Rattle.vault_ledger.specs.Pools.{HoldsLive, live_slot}
 use Rattle.vault_ledger.specs.Storage.{AreCopies, ArePools, Follows, IsCopyIn, IsUnitPool, StorageState, copy_for}
-use Rattle.vault_ledger.specs.Wellformed.{IsLedger}
-use Rattle.vault_ledger.proofs.FittingImages.{fits_by}
 use Rattle.vault_ledger.proofs.KeptBackups.{backup_kept, here, segments_so, slots_other, slots_own, unit_there}
 use Rattle.vault_ledger.proofs.LedgerUnits.{number_own, some_segment}
 use Rattle.vault_ledger.proofs.NamedImages.{at_same, named_id, named_with}
@@ -46,12 +44,12 @@ sealed_number l w = (unit_at (whole_unit l.outline w) l.outline.site.book).numbe
 
 -- A list with one element changed.
 
-set_here : {A : Type 0} (xs : List A) (i : ℕ) (was x : A) → slice_get xs i ≡ Some was → slice_get (slice_set xs i x) i ≡ Some x
+pub set_here : {A : Type 0} (xs : List A) (i : ℕ) (was x : A) → slice_get xs i ≡ Some was → slice_get (slice_set xs i x) i ≡ Some x
 set_here xs i was x is =
     let lt = slice_get_within xs i was is in
     slice_get-get_or (slice_set xs i x) i x (omega (arith, lt, length-set xs i x)) ∙ ap Some (get_or-set_same xs i x x lt)
 
-set_elsewhere : {A : Type 0} (xs : List A) (i j : ℕ) (x : A) → j ≢ i → slice_get (slice_set xs i x) j ≡ slice_get xs j
+pub set_elsewhere : {A : Type 0} (xs : List A) (i j : ℕ) (x : A) → j ≢ i → slice_get (slice_set xs i x) j ≡ slice_get xs j
 set_elsewhere xs i j x ne = ⊎_elim
     (λ lt. slice_get-get_or (slice_set xs i x) j x (omega (arith, lt, length-set xs i x)) ∙ ap Some (get_or-set_other xs i j x x ne) ∙ sym (slice_get-get_or xs j x lt))
     (λ past. slice_get_past (slice_set xs i x) j (omega (arith, past, length-set xs i x)) ∙ sym (slice_get_past xs j past))
@@ -92,7 +90,7 @@ few_pieces size known n (slot ∷ slots) k fits few =
         let behind = later j rest (omega (arith, room)) in
         omega (arith, behind)
 
-count_room : (size n : ℕ) → 1 ≤ size → piece_count size n ≤ piece_limit → n ≤ piece_limit * size
+pub count_room : (size n : ℕ) → 1 ≤ size → piece_count size n ≤ piece_limit → n ≤ piece_limit * size
 count_room size n some few =
     let full : (size == 0) ≡ false = grind (arith, nat_tests, some) in
     let count : piece_count size n ≡ n / size + min 1 (n % size) = λ i. if full i then 0 else (n / size + min 1 (n % size)) in

@@ -51,7 +51,7 @@ count_held (s ∷ known) apart pool here others =
 
 -- Which pieces are lacking.
 
-blocks_one : (n size : ℕ) (bytes : List ℕ) → cut.blocks n size bytes ≡ blocks n size bytes
+pub blocks_one : (n size : ℕ) (bytes : List ℕ) → cut.blocks n size bytes ≡ blocks n size bytes
 blocks_one zero size bytes = refl
 blocks_one (suc n) size [] = refl
 blocks_one (suc n) size (b ∷ bytes) = ap (λ (l : List (List ℕ)). take size (b ∷ bytes) ∷ l) (blocks_one n size (drop size (b ∷ bytes)))

@@ -12,7 +12,7 @@ use Rattle.vault_ledger.specs.Wellformed.{IsLedger}
 use Rattle.vault_ledger.proofs.KeptBackups.{backup_kept}
 use Rattle.vault_ledger.proofs.KeptSettings.{lines_kept}
 
-new_kept : IsLedger new_ledger
+pub new_kept : IsLedger new_ledger
 new_kept = record {
   shape = record { images = []; stored = initial.stored; listed = refl; units = refl; sound = sound_initial };
   no_bytes = λ image (k, lt, is). absurd (omega arith);

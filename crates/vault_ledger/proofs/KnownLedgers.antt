@@ -1,13 +1,13 @@
 -- A disk of which a ledger is known, and one whose images all stand for one state.
-use Rattle.desk_model.proofs.Common.{◌≡◌, ◌∙◌, ℕ, zero, suc, Bool, true, false, List, [], ◌∷◌, map, refl, sym, ap, subst, arith, Option, Some, Result, Ok, Contains, bytes_eq, bytes_eq-Decides, option_and_then, has, unit_name, State, Stored}
+use Rattle.desk_model.proofs.Common.{◌≡◌, ◌∙◌, ℕ, zero, suc, Bool, true, false, List, [], ◌∷◌, map, refl, sym, ap, subst, arith, Some, Result, Ok, Contains, option_and_then, has, unit_name, State, Stored}
 use Rattle.std.specs.Result.{result_ok}
-use Rattle.site_types.proofs.OptionLemmas.{chained, guarded}
+use Rattle.site_types.proofs.OptionLemmas.{guarded}
 use Rattle.vault_disk.specs.Disk.{Disk, Image as DiskImage}
 use Rattle.vault_disk.specs.Steps.{Rests}
 use Rattle.pool_journal.specs.Records.{reading}
 use Rattle.pool_journal.specs.declared.segments.NewSegment.{NewSegment}
 use Rattle.vault_ledger.specs.Keeping.{KeptLedger, SaysLedger}
-use Rattle.vault_ledger.specs.Ledger.{Ledger, are_true, journal_reads, ledger_of, live_on, piece_in, pieces_on, pool_file, segment_of, set_over, stands, state_over, state_where}
+use Rattle.vault_ledger.specs.Ledger.{Ledger, are_true, journal_reads, ledger_of, piece_in, pieces_on, pool_file, segment_of, set_over, stands, state_over, state_where}
 use Rattle.vault_ledger.specs.Wellformed.{IsLedger}
 use Rattle.vault_ledger.proofs.JournalLedgers.{journal_kept}
 use Rattle.vault_ledger.proofs.KeptLedgers.{rest_still}
@@ -37,7 +37,7 @@ one_ledger disk end l m says also =
 -- What images stand for.
 
 -- an image whose journal reads as a ledger has true pools where it stands for a state, and that state is the ledger's
-stands_over : (c : DiskImage) (l : Ledger) (s : State) → journal_reads c ≡ Ok l → stands c ≡ Some s → (are_true c l l.outline.stored ≡ true) × (state_over c l ≡ s)
+pub stands_over : (c : DiskImage) (l : Ledger) (s : State) → journal_reads c ≡ Ok l → stands c ≡ Some s → (are_true c l l.outline.stored ≡ true) × (state_over c l ≡ s)
 stands_over c l s reads is =
     let over : state_where c l ≡ Some s = sym (ap (λ (r : Result Ledger ℕ). option_and_then (state_where c) (result_ok r)) reads) ∙ is in
     let done = guarded (are_true c l l.outline.stored) (Some (state_over c l)) s over in

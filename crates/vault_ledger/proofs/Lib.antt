@@ -34,3 +34,8 @@ pub mod FollowedSettings
 pub mod FittedPools
 pub mod UnitPools
 pub mod KnownLedgers
+pub mod SyncedStorage
+pub mod ReadCopies
+pub mod StoredBackups
+pub mod TakenBackups
+pub mod NewStorages

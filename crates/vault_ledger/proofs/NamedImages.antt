@@ -1,5 +1,5 @@
 -- Which image an id has, where there is one more.
-use Rattle.desk_model.proofs.Common.{◌≡◌, ◌∙◌, Bool, true, false, List, [], ◌∷◌, refl, sym, ap, Option, Some, None, if◌then◌else◌, ◌&&◌, false≢true, or_parts, BackupId, same_id, is_before, Image, has_image, image_named, with_image}
+use Rattle.desk_model.proofs.Common.{◌≡◌, ◌∙◌, Bool, true, false, List, [], ◌∷◌, refl, sym, ap, Option, Some, if◌then◌else◌, ◌&&◌, false≢true, or_parts, BackupId, same_id, is_before, Image, has_image, image_named, with_image}
 use Rattle.std.specs.BTreeMap.{is_at}
 use Rattle.std.specs.Cmp.{tied_then, unsigned_tied}
 use Rattle.std.specs.Cmp.Lexicographic.{slice_cmp}

@@ -65,7 +65,7 @@ none_placed l storage unit follows absent =
     let there = in_filtered (λ (q : Placement). bytes_eq q.unit unit) l.placements p among in
     false≢true (sym absent ∙ ap (λ (n : List ℕ). has unit_name n l.outline.site.book.units) (sym (text_is p.unit unit there.1)) ∙ follows.placed p there.0)))
 
-holds_none : (pool : PoolState) → pool.table ≡ [] → HoldsLive [] [] pool
+pub holds_none : (pool : PoolState) → pool.table ≡ [] → HoldsLive [] [] pool
 holds_none pool empty = record {
   here = λ s (k, lt, is). absurd (omega (arith, lt));
   others = λ slot none. ap (λ (table : List (Option Slot)). at_slot table slot) empty;

@@ -7,3 +7,4 @@ pub mod Keeping
 pub mod Copies
 pub mod Sealing
 pub mod Storage
+pub mod Storing

@@ -7,11 +7,15 @@ use Rattle.site_types.specs.declared.image.CopyRecord.{CopyRecord}
 use Rattle.site_types.specs.declared.image.ImageRecord.{ImageRecord}
 use Rattle.site_types.specs.declared.request.Request.{Request}
 use Rattle.site_types.specs.declared.request.Request.TheVariants as request
-use Rattle.vault_disk.specs.Disk.{Disk}
+use Rattle.sha2.specs.Sha256.{sha256}
+use Rattle.vault_disk.specs.Disk.{Disk, Image as DiskImage}
 use Rattle.segment_pool.specs.Slots.{PoolState}
 use Rattle.copy_fragments.specs.Copies.{Copy}
+use Rattle.copy_fragments.specs.declared.whole_copy.CopyFault.{CopyFault}
+use Rattle.copy_fragments.specs.declared.whole_copy.CopyFault.TheVariants as fault
 use Rattle.pool_journal.specs.declared.entry.Entry.TheVariants as entry
 use Rattle.pool_journal.specs.declared.entry.WholeImage.{WholeImage}
+use Rattle.pool_journal.specs.declared.segments.NewSegment.{NewSegment}
 use Rattle.pool_journal.specs.declared.segments.Segments.{Segments}
 use Rattle.policy_book.specs.Book.{Book, unit_name}
 use Rattle.policy_book.specs.Lists.{has}
@@ -19,8 +23,9 @@ use Rattle.desk_model.specs.State.{Image, image_named}
 use Rattle.desk_model.specs.Pieces.{piece_limit}
 use Rattle.desk_model.specs.Backups.{unit_at}
 use Rattle.vault_ledger.specs.Copies.{copy_of}
+use Rattle.vault_ledger.specs.Fitting.{image_fits, whole_unit}
 use Rattle.vault_ledger.specs.Keeping.{KeptLedger, SaysLedger}
-use Rattle.vault_ledger.specs.Ledger.{Ledger, Placement, live_on, named_on, recorded, segment_of, slots_of, state_over, with_backup}
+use Rattle.vault_ledger.specs.Ledger.{Ledger, Placement, is_whole, live_on, named_on, piece_in, pool_file, recorded, segment_of, slots_of, state_over, with_backup}
 use Rattle.vault_ledger.specs.Pools.{HoldsLive}
 use Rattle.vault_ledger.specs.Sealing.{state_sealed}
 use Rattle.vault_ledger.specs.Wellformed.{IsLedger}
@@ -83,6 +88,11 @@ pool_added _ book = None
 
 -- A backup.
 
+-- a backup's image fits a ledger, and goes to this unit
+pub record IsUnitFor (l : Ledger) (w : WholeImage) (unit : StorageUnit) : Type 0 where
+  pub fits : image_fits l.outline w ≡ true
+  pub unit_is : unit ≡ unit_at (whole_unit l.outline w) l.outline.site.book
+
 -- whether a backup's segments fit, and what is known then
 abbrev pub IsTaken : Ledger → WholeImage → Segments → StorageState → Bool → Type 0
 IsTaken l w segments storage true = (recorded l (entry.BackupSealed w segments) ≡ Some (with_backup w segments l)) × Follows (with_backup w segments l) storage
@@ -100,3 +110,34 @@ pub record IsUnstored (l : Ledger) (old new : Disk) (end end' : ℕ) (storage : 
   pub follows : Follows l storage
   pub says : old.tells → SaysLedger old end l → SaysLedger new end' l
   pub kept : old.tells → KeptLedger old end l → KeptLedger new end' l × (state_over new.seen l ≡ state_over old.seen l)
+
+-- A restore.
+
+-- an image of the ledger, whose one copy is on this unit
+pub record IsCopyOn (l : Ledger) (id : BackupId) (unit : StorageUnit) (image : Image) (copy : CopyRecord) : Type 0 where
+  pub image_is : image_named id l.outline.images ≡ Some image
+  pub only : image.entry.copies ≡ copy ∷ []
+  pub unit_is : unit ≡ unit_at copy.unit l.outline.site.book
+
+-- a live slot in which a piece of the copy stands
+pub record IsPieceOf (l : Ledger) (image : ImageRecord) (copy : CopyRecord) (s : NewSegment) : Type 0 where
+  pub live : Contains (live_on copy.unit l.live) s
+  pub named : Contains (slots_of image.id copy.number l.placements) s.slot
+
+-- each piece of the copy has its recorded length and digest
+abbrev pub IsWholeOn : DiskImage → Ledger → ImageRecord → CopyRecord → Type 0
+IsWholeOn c l image copy = (s : NewSegment) → IsPieceOf l image copy s → is_whole (c (pool_file copy.unit l.outline)) (segment_of copy.unit l.outline) s ≡ true
+
+-- the bytes of a piece of the copy are fewer than recorded, or have another digest than recorded; these are the two digests
+pub record IsDamagedOn (c : DiskImage) (l : Ledger) (image : ImageRecord) (copy : CopyRecord) (recorded found : List ℕ) : Type 0 where
+  pub segment : NewSegment
+  pub piece : IsPieceOf l image copy segment
+  pub broken : is_whole (c (pool_file copy.unit l.outline)) (segment_of copy.unit l.outline) segment ≡ false
+  pub recorded_is : recorded ≡ segment.digest
+  pub found_is : found ≡ sha256 (piece_in (c (pool_file copy.unit l.outline)) (segment_of copy.unit l.outline) segment)
+
+-- when a copy may be refused over a vault that tells
+abbrev pub ReadingFails : DiskImage → Ledger → ImageRecord → CopyRecord → CopyFault → Type 0
+ReadingFails c l image copy fault.NoMemory = Unit {0}
+ReadingFails c l image copy fault.DiskFault = Unit {0}
+ReadingFails c l image copy (fault.Damaged recorded found) = IsDamagedOn c l image copy recorded found

@@ -7,9 +7,13 @@
 mod adopting;
 mod copies;
 mod keeping;
+mod reading;
 mod sealing;
 mod soundness;
 mod storage;
+mod storing;
+mod syncing;
+mod taking;
 mod unit_pools;
 
 pub use adopting::{adopt, name_pieces};

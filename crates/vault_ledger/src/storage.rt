@@ -3,6 +3,9 @@ use crate::copies::Copies;
 use segment_pool::{Pool, Sha256Print};
 use std::marker::Model;
 
+// The number of the file of the first unit's pool.
+pub(crate) const FIRST_POOL: u32 = 2;
+
 /// The pools of the units, by their numbers, and the copies of the images.
 #[derive(Drop)]
 pub struct Storage {
