@@ -1,0 +1,14 @@
+pub mod Deciding
+pub mod ImageLemmas
+pub mod LineLemmas
+pub mod SettingLines
+pub mod SiteChanges
+pub mod Changing
+pub mod FileLines
+pub mod Loading
+pub mod OfRequests
+pub mod Refusing
+pub mod CatalogueRoom
+pub mod AdmittedImages
+pub mod FittingUnits
+pub mod ReplayedRecords

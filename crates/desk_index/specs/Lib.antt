@@ -1,0 +1,4 @@
+pub mod Index
+pub mod Replays
+pub mod Answers
+pub mod Changes
