@@ -87,10 +87,19 @@ class Desk:
         """Returns the journal as it stands on the disk."""
         return self.file().read_bytes()
 
-    def put(self, journal):
-        """Writes a journal, as an earlier run might have left it."""
+    def files(self):
+        """Returns the bytes of the vault's files by their numbers, without those that are empty."""
+        found = {int(path.stem): path.read_bytes() for path in Path(self.folder).glob("*.nbv")}
+        return {number: file for number, file in found.items() if file}
+
+    def put(self, files):
+        """Writes the files of a vault, or a journal alone, as an earlier run might have left them."""
+        files = files if isinstance(files, dict) else {0: files}
         Path(self.folder).mkdir(exist_ok=True)
-        self.file().write_bytes(journal)
+        for path in Path(self.folder).glob("*.nbv"):
+            path.unlink()
+        for number, file in files.items():
+            self.file(number).write_bytes(file)
 
     def exists(self):
         return os.path.lexists(self.folder)

@@ -51,8 +51,8 @@ class RowsTest(DeskTest):
         alone, together = self.new_desk(), self.new_desk()
         self.run_alone(alone, rows)
         self.run_session(together, rows)
-        self.assertTrue(alone.bytes() == together.bytes(), "the session leaves another journal than the commands")
-        records = vault.read(alone.bytes())
+        self.assertTrue(alone.files() == together.files(), "the session leaves another vault than the commands")
+        records = vault.read(alone.files())
         done = [words for words, status, *_ in rows if status == 0 and not is_read(words)]
         self.assertEqual(len(records), len(done), "not one record for each request that was done")
         return records

@@ -1,5 +1,6 @@
 """The first command, `bpbackup client=NAME`: its answers as rows, and the bytes that it leaves."""
 
+import os
 import random
 import subprocess
 from pathlib import Path
@@ -8,11 +9,11 @@ import desk
 import vault
 from desk import DeskTest
 
-HELLO = (
-    b"NBDESK VAULT 001"  # the header
+HELLO = {
+    0: b"NBDESK VAULT 001"  # the header
     b"\xa5"  # the gate of the first record, open
-    b"\x00\x00\x00\x46"  # its body has 70 bytes
-    b"\x07"  # a whole image
+    b"\x00\x00\x00\x75"  # its body has 117 bytes
+    b"\x02"  # a backup
     b"\x00\x05alpha"  # the client
     b"\x00\x00\x00\x00\x00\x00\x03\xe8"  # the image's time, 1000
     b"\x00\x05adhoc"  # the policy
@@ -23,9 +24,16 @@ HELLO = (
     b"\x00\x01"  # its version
     b"\x00\x00\x00\x00\x00\x00\x03\xe8"  # completed at 1000
     b"\x00\x00\x00\x00\x00\x00\x00\x05"  # five bytes
-    b"hello"
-    b"\x00"  # the gate of the next record, closed
-)
+    b"\x00\x00\x00\x01"  # one new segment
+    b"\x00\x00\x00\x00"  # in the first slot
+    b"\x00\x00\x00\x05"  # of five bytes
+    b"\x2c\xf2\x4d\xba\x5f\xb0\xa3\x0e\x26\xe8\x3b\x2a\xc5\xb9\xe2\x9e"  # and with their digest
+    b"\x1b\x16\x1e\x5c\x1f\xa7\x42\x5e\x73\x04\x33\x62\x93\x8b\x98\x24"
+    b"\x00\x00\x00\x01"  # one piece
+    b"\x00\x00\x00\x00"  # in the first slot
+    b"\x00",  # the gate of the next record, closed
+    2: b"hello",  # the pool
+}
 
 NAME_OF_64 = "n" * 64
 
@@ -148,7 +156,7 @@ class Rows(DeskTest):
         self.desk.put(HELLO)
         for words in (["frobnicate"], ["bpbackup", "client=a/b"], ["@x", "bpbackup", "client=a"]):
             self.assertEqual(run_exactly(self.desk, words).status, 2)
-            self.assertEqual(self.desk.bytes(), HELLO)
+            self.assertEqual(self.desk.files(), HELLO)
 
     def test_bad_words_read_no_input(self):
         path = Path(self.top, "input")
@@ -207,13 +215,15 @@ class Exact(desk.Desk):
         return [self.program, self.folder, *words]
 
 
-class Journal(DeskTest):
-    def test_the_first_backup_leaves_these_92_bytes(self):
-        self.assertEqual(len(HELLO), 92)
+class Files(DeskTest):
+    def test_the_first_backup_leaves_these_139_bytes_and_those_of_the_payload(self):
+        self.assertEqual((len(HELLO[0]), HELLO[0][16], len(HELLO[2])), (139, 0xA5, 5))
         self.check_quiet(self.desk.run("@1000 bpbackup client=alpha", payload=b"hello"), 0, b"alpha_1000\n")
-        self.assertEqual(self.desk.bytes(), HELLO)
-        # (the tests' own speller agrees)
-        self.assertEqual(vault.journal(vault.Image(b"alpha", 1000, b"hello", 1000)), HELLO)
+        self.assertEqual(self.desk.files(), HELLO)
+        # (the tests' own speller agrees, and their reader)
+        first = vault.Image(b"alpha", 1000, b"hello", 1000)
+        self.assertEqual(vault.files(first), HELLO)
+        self.assertEqual(vault.read(HELLO), [first])
 
     def test_records_follow_one_another(self):
         images = [
@@ -225,24 +235,22 @@ class Journal(DeskTest):
         for image in images:
             answer = self.desk.run(f"@{image.completed} bpbackup client={image.client.decode()}", payload=image.payload)
             self.check_quiet(answer, 0, image.id + b"\n")
-        self.assertEqual(self.desk.bytes(), vault.journal(*images))
+        self.assertEqual(self.desk.files(), vault.files(*images))
 
     def test_a_refusal_writes_nothing(self):
         self.desk.run("@250000000000 bpbackup client=a", payload=b"x")
-        before = self.desk.bytes()
-        self.assertEqual(self.desk.run("@1 bpbackup client=a", payload=b"x").status, 15)
-        self.assertEqual(self.desk.bytes(), before)
+        before = self.desk.files()
+        self.assertEqual(self.desk.run("@1 bpbackup client=a", payload=b"y").status, 15)
+        self.assertEqual(self.desk.files(), before)
 
     def test_no_other_file_is_made(self):
         self.desk.run("@1 bpbackup client=a", payload=b"x")
-        names = sorted(path.name for path in Path(self.desk.folder).iterdir())
-        self.assertLessEqual(set(names), {"0.nbv", "1.nbv", "2.nbv"})
-        self.assertIn("0.nbv", names)
+        self.assertEqual(sorted(os.listdir(self.desk.folder)), ["0.nbv", "2.nbv"])
 
     def test_folders_above_the_vault_are_made_too(self):
         deep = desk.Desk(Path(self.top, "a", "b", "c"))
         self.check_quiet(deep.run("@1 bpbackup client=a", payload=b"x"), 0, b"a_1\n")
-        self.assertEqual(vault.read(deep.bytes())[0].payload, b"x")
+        self.assertEqual(vault.read(deep.files())[0].payload, b"x")
 
     def test_a_relative_folder_is_below_where_the_program_runs(self):
         self.check_quiet(desk.Desk("here").run("@1 bpbackup client=a", payload=b"x", cwd=self.top), 0, b"a_1\n")
@@ -258,7 +266,7 @@ class Payloads(DeskTest):
             with self.subTest(length=length):
                 images.append(vault.Image(b"a", time, some[:length], time))
                 self.check_quiet(self.desk.run(f"@{time} bpbackup client=a", payload=some[:length]), 0, b"a_%d\n" % time)
-        self.assertTrue(self.desk.bytes() == vault.journal(*images), "the journal differs")
+        self.assertTrue(self.desk.files() == vault.files(*images), "the vault differs")
 
     def test_an_input_that_comes_in_pieces(self):
         process = self.desk.start("@1 bpbackup client=a")
@@ -266,27 +274,27 @@ class Payloads(DeskTest):
             process.stdin.write(piece)
             process.stdin.flush()
         self.check_quiet(self.ending(process), 0, b"a_1\n")
-        self.assertEqual(vault.read(self.desk.bytes())[0].payload, b"hello" + b"x" * 70_000 + b"y")
+        self.assertEqual(vault.read(self.desk.files())[0].payload, b"hello" + b"x" * 70_000 + b"y")
 
     def test_an_input_from_a_file(self):
         path = Path(self.top, "input")
         path.write_bytes(b"hello" * 20_000)
         with path.open("rb") as source:
             self.check_quiet(self.desk.run("@1 bpbackup client=a", payload=None, stdin=source), 0, b"a_1\n")
-        self.assertEqual(vault.read(self.desk.bytes())[0].payload, b"hello" * 20_000)
+        self.assertEqual(vault.read(self.desk.files())[0].payload, b"hello" * 20_000)
 
     def test_the_longest_payload(self):
         most = random.Random(2).randbytes(desk.LONGEST)
         self.check_quiet(self.desk.run("@1 bpbackup client=a", payload=most), 0, b"a_1\n")
-        self.assertTrue(self.desk.bytes() == vault.journal(vault.Image(b"a", 1, most, 1)), "the journal differs")
-        # It is read again at the next opening.
+        self.assertTrue(self.desk.files() == vault.files(vault.Image(b"a", 1, most, 1)), "the vault differs")
+        # It is there at the next opening.
         self.check_quiet(self.desk.run("@1 bpbackup client=a", payload=b"x"), 0, b"a_2\n")
 
     def test_one_byte_more_is_refused_and_nothing_is_stored(self):
         self.desk.put(HELLO)
         answer = self.desk.run("@1 bpbackup client=a", payload=bytes(desk.LONGEST + 1))
         self.check_quiet(answer, 15, b"too many bytes: 67108865 of 67108864\n")
-        self.assertEqual(self.desk.bytes(), HELLO)
+        self.assertEqual(self.desk.files(), HELLO)
 
     def test_far_more_is_refused_with_the_same_count(self):
         with open("/dev/zero", "rb") as source:
@@ -295,4 +303,4 @@ class Payloads(DeskTest):
             cut.stdout.close()
             cut.wait()
         self.check_quiet(answer, 15, b"too many bytes: 67108865 of 67108864\n")
-        self.assertEqual(vault.read(self.desk.bytes()), [])
+        self.assertEqual(vault.read(self.desk.files()), [])

@@ -79,7 +79,7 @@ class FolderTest(DeskTest):
         super().setUp()
         self.home = Path(self.top, "home")
         self.home.mkdir()
-        self.desk.put(vault.journal(vault.settings(*SITE)))
+        self.desk.put(vault.files(vault.settings(*SITE)))
 
     def run_it(self, *words, program=desk.PROGRAM, **how):
         """Runs the tool with the program in the launcher's place."""
@@ -104,7 +104,7 @@ class FolderTest(DeskTest):
         self.assertEqual((answer.status, desk.shown(answer.out), told), (status, desk.shown(out), [f"bpfolder: {it}" for it in lines]))
 
     def images(self):
-        return [it for it in vault.read(self.desk.bytes()) if isinstance(it, vault.Image)]
+        return [it for it in vault.read(self.desk.files()) if isinstance(it, vault.Image)]
 
     def comes_back(self, words=HOME, wanted=None, status=0, lines=()):
         self.says(self.restore(words), status, b"", *lines)
@@ -427,10 +427,10 @@ class TooLarge(FolderTest):
     ENTRY = len(stream(File(b"/a", 0, b""))) - len(stream())
 
     def is_refused(self, words, file, files, length, size):
-        before = self.desk.bytes()
+        before = self.desk.files()
         line = f"the folder is too large for one backup, whose stream has at most 67108864 bytes: {files} files make {length}, and {file} has {size} more. Nothing was backed up. Back up parts of the folder, each with a client or a policy of its own"
         self.says(self.back_up(words), 15, b"", line)
-        self.assertTrue(self.desk.bytes() == before, "something was stored")
+        self.assertTrue(self.desk.files() == before, "something was stored")
 
     def sparse(self, name, size):
         put(self.home / name, b"")
@@ -465,7 +465,7 @@ class Refused(FolderTest):
     def test_a_backup(self):
         put(self.home / "a", b"x")
         self.assertEqual(self.desk.run("bppolicynew change policy=p active=no").status, 0)
-        before = self.desk.bytes()
+        before = self.desk.files()
         for words, status, out in (
             ("client=alpha policy=q", 4, b"q unknown\n"),
             ("client=beta policy=p", 4, b"beta unknown\n"),
@@ -474,7 +474,7 @@ class Refused(FolderTest):
         ):
             with self.subTest(words=words):
                 self.says(self.back_up(words), status, out)
-        self.assertEqual(self.desk.bytes(), before)
+        self.assertEqual(self.desk.files(), before)
 
     def test_a_refusal_before_all_was_sent(self):
         """A vault that is in use is refused at once, and the rest of the stream is not waited for."""
@@ -509,11 +509,11 @@ class Refused(FolderTest):
                 self.assertFalse(self.back.exists())
 
     def test_a_chain_that_lacks_an_image(self):
-        self.desk.put(vault.journal(vault.settings(*SITE), vault.Image(b"alpha", 9, image(), 9, b"p", b"d", 1, 8)))
+        self.desk.put(vault.files(vault.settings(*SITE), vault.Image(b"alpha", 9, image(), 9, b"p", b"d", 1, 8)))
         self.says(self.restore(), 16, b"chain lacks alpha_8\n")
 
     def test_an_image_that_is_none(self):
-        self.desk.put(vault.journal(vault.settings(*SITE), vault.Image(b"alpha", 9, b"hello", 9, b"p", b"f")))
+        self.desk.put(vault.files(vault.settings(*SITE), vault.Image(b"alpha", 9, b"hello", 9, b"p", b"f")))
         self.says(self.restore(), 23, b"bad stream at 0\n")
 
     def stand_in(self, script):
@@ -546,7 +546,7 @@ class Refused(FolderTest):
         rows = [b"", b"NB", b"hello", image(), stream()[:-1], stream() + b"x", b"NBC1\2", b"NBC1\1\0\0", b"NBC1\1\xff\xff/", stream(File(b"a", 1, b"")), stream(File(b"/a\n", 1, b"")), stream(File(b"/a", 1, b""), File(b"/a", 1, b"")), b"NBC1\1\0\2/a" + b"\xff" * 16]
         for payload in rows:
             with self.subTest(payload=payload):
-                self.desk.put(vault.journal(vault.Image(b"beta", 9, payload, 9)))
+                self.desk.put(vault.files(vault.Image(b"beta", 9, payload, 9)))
                 answer = self.restore("client=beta policy=adhoc")
                 self.assertEqual((answer.status, answer.out), (92, b""))
                 self.assertRegex(answer.err, rb"\Abpfolder: the answer is no stream of files at \d+: is the policy of type files\?\n\Z")
@@ -558,7 +558,7 @@ class Outside(FolderTest):
     def test_paths_that_lead_out_of_the_folder(self):
         names = [b"/..", b"/../out", b"/./a", b"/.", b"/", b"//a", b"/a/../../out", b"/d/", b"/d//e"]
         files = sorted([File(path, START, b"x") for path in [*names, b"/..a", b"/a/b", b"/z"]])
-        self.desk.put(vault.journal(vault.settings(*SITE), vault.Image(b"alpha", 9, image(*files), 9, b"p", b"f")))
+        self.desk.put(vault.files(vault.settings(*SITE), vault.Image(b"alpha", 9, image(*files), 9, b"p", b"f")))
         before = sorted(os.listdir(self.top))
         lines = [f"{path.decode()}: it is left out: its path has a part that is empty, . or .." for path in sorted(names)]
         self.comes_back(wanted=[File(path, START, b"x") for path in (b"/..a", b"/a/b", b"/z")], status=90, lines=lines)
@@ -566,13 +566,13 @@ class Outside(FolderTest):
 
     def test_a_path_that_is_a_file_and_a_folder(self):
         files = [File(b"/a", START, b"x"), File(b"/a/b", START, b"y"), File(b"/a/b/c", START, b"z"), File(b"/d/e", START, b"x"), File(b"/d/e/f", START, b"y"), File(b"/d/g", START, b"z")]
-        self.desk.put(vault.journal(vault.settings(*SITE), vault.Image(b"alpha", 9, image(*files), 9, b"p", b"f")))
+        self.desk.put(vault.files(vault.settings(*SITE), vault.Image(b"alpha", 9, image(*files), 9, b"p", b"f")))
         lines = [f"{path}: it is left out: what would be a folder above it is a file" for path in ("/a/b", "/a/b/c", "/d/e/f")]
         self.comes_back(wanted=[files[0], files[3], files[5]], status=90, lines=lines)
 
     def test_names_that_no_folder_takes(self):
         files = [File(b"/" + b"n" * 256, START, b"x"), File(b"/" + b"n" * 300 + b"/a", START, b"x"), File(b"/z", 2**64 - 1, b"x")]
-        self.desk.put(vault.journal(vault.settings(*SITE), vault.Image(b"alpha", 9, image(*files), 9, b"p", b"f")))
+        self.desk.put(vault.files(vault.settings(*SITE), vault.Image(b"alpha", 9, image(*files), 9, b"p", b"f")))
         lines = [*(f"{it.path.decode()}: it is left out: File name too long" for it in files[:2]), f"/z: it can't have the time {2**64 - 1}"]
         self.says(self.restore(), 90, b"", *lines)
         self.assertEqual((self.back / "z").read_bytes(), b"x")

@@ -7,11 +7,13 @@ import subprocess
 from pathlib import Path
 
 import desk
+import streams
 import vault
 from desk import DeskTest
 
 DOCUMENT = desk.ROOT / "docs/operators.md"
 README = desk.ROOT / "README.md"
+VAULT = desk.ROOT / "docs/vault.md"
 
 # What some commands leave for those behind them.
 KEPT = ("site.toml",)
@@ -33,6 +35,18 @@ def site_files(document):
     blocks = [block for _, block in parts(document)]
     blocks += [text for block in blocks for _, text in re.findall(r"<<'?(\w+)'?\n(.*?)^\1$", block, re.DOTALL | re.MULTILINE)]
     return [block for block in blocks if re.match(r"(#[^\n]*\n|\s)*\[", block) and re.search(r"^\[\[\w+\]\]$", block, re.MULTILINE)]
+
+
+def tables(document):
+    """Returns the bytes of each table that gives them with their offsets, which are those of its rows, one behind another."""
+    found = []
+    for offset, spelled in re.findall(r"^\| (\d+) \| `([0-9a-f ]+)` \|", document, re.MULTILINE):
+        if offset == "0":
+            found.append(b"")
+        if int(offset) != len(found[-1]):
+            raise ValueError(f"the bytes before {offset} are {len(found[-1])}")
+        found[-1] += bytes.fromhex(spelled)
+    return found
 
 
 class Document(DeskTest):
@@ -74,9 +88,17 @@ class Document(DeskTest):
                 one = self.new_desk()
                 answer = one.run("bpload", payload=file.encode())
                 self.assertEqual((answer.status, answer.err), (0, answer.made), answer.out)
-                (record,) = vault.read(one.bytes())
+                (record,) = vault.read(one.files())
                 self.check(answer, 0, b"%d\n" % len(record.lines))
                 self.assertGreater(len(record.lines), 1)
+
+    def test_the_tables_of_the_vault_s_bytes(self):
+        """Two are those of a journal, each after the first request on a new vault, and one is that of an image of files."""
+        site, backup = self.new_desk(), self.new_desk()
+        self.check_quiet(site.run("client add name=alpha"), 0, b"")
+        self.check_quiet(backup.run("@1000 bpbackup client=alpha", payload=b"hello"), 0, b"alpha_1000\n")
+        image = streams.image(streams.File(b"/a", 1500, b"A2"), streams.File(b"/b"))
+        self.assertEqual(tables(VAULT.read_text()), [site.bytes(), backup.bytes(), image])
 
     def test_the_blocks_of_a_document_are_found(self):
         document = "Paste this:\n\n```sh\ncat >site <<'END'\n[[client]]\nname = 1\nEND\ncat site\n```\n\nIt prints\n\n```\n[[client]]\n```\n\nElse\n\n```\n[x]\n```\n"

@@ -1,6 +1,7 @@
 """Folders, inputs and outputs that fail: the status, what is told, and that the vault stays whole."""
 
 import os
+import random
 import resource
 import shutil
 import signal
@@ -12,7 +13,16 @@ from desk import PROGRAM, Desk, DeskTest, frame
 from test_backup import HELLO
 
 BACKUP = "@1 bpbackup client=a"
-FIRST = vault.Image(b"alpha", 1000, b"hello", 1000)
+
+
+def with_files_of(most):
+    """Returns how a program runs whose files can't grow past so many bytes, as on a disk that is full: a write past them fails."""
+
+    def limit():
+        signal.signal(signal.SIGXFSZ, signal.SIG_IGN)
+        resource.setrlimit(resource.RLIMIT_FSIZE, (most, most))
+
+    return {"preexec_fn": limit, "restore_signals": False}
 
 
 class Folders(DeskTest):
@@ -63,30 +73,29 @@ class Folders(DeskTest):
         self.check_told(refused.run(BACKUP, payload=b"x", **how), 18, b"disk fault\n")
         below = Desk(Path(self.desk.folder, "below"), refused.program)
         self.check_told(below.run(BACKUP, payload=b"x", **how), 18, b"disk fault\n")
-        self.assertEqual(self.desk.bytes(), HELLO)
+        self.assertEqual(self.desk.files(), HELLO)
 
     def test_a_disk_that_is_full(self):
         """A limit on the length of files stands for the full disk: a write past it fails."""
-        before = vault.journal(FIRST, vault.Image(b"b", 1, bytes(900_000), 1))
-        self.desk.put(before)
+        before = vault.files(*(vault.Image(b"b", time, b"hello", time) for time in range(1, 10_000)))
+        length = len(before[0])
 
-        def limit():
-            signal.signal(signal.SIGXFSZ, signal.SIG_IGN)
-            resource.setrlimit(resource.RLIMIT_FSIZE, (1_000_000, 1_000_000))
-
-        answer = self.desk.run(BACKUP, payload=bytes(300_000), preexec_fn=limit, restore_signals=False)
-        self.check(answer, 18, b"disk fault\n")
-        # What was there stays, and the next run takes the place of what the failed one left.
-        self.assertEqual(vault.read(self.desk.bytes()), vault.read(before))
-        self.check_quiet(self.desk.run(BACKUP, payload=b"x"), 0, b"a_1\n")
-        self.assertEqual(vault.read(self.desk.bytes()), [*vault.read(before), vault.Image(b"a", 1, b"x", 1)])
+        for payload, most in ((b"hello", length), (b"hello", length + 20), (random.Random(1).randbytes(300_000), 200_000)):
+            with self.subTest(length=len(payload), most=most):
+                self.desk.put(before)
+                answer = self.desk.run(BACKUP, payload=payload, **with_files_of(most))
+                self.check(answer, 18, b"disk fault\n")
+                # What was there stays, and the next run takes the place of what the failed one left.
+                self.assertTrue(vault.read(self.desk.files()) == vault.read(before), "the vault has other images")
+                self.check_quiet(self.desk.run(BACKUP, payload=b"x"), 0, b"a_1\n")
+                self.assertTrue(vault.read(self.desk.files()) == [*vault.read(before), vault.Image(b"a", 1, b"x", 1)], "the vault has other images")
 
 
 class Outputs(DeskTest):
     """A reply that cannot be sent: status 20, and the image stands, since a send changes no state."""
 
     def stands(self):
-        self.assertEqual(vault.read(self.desk.bytes()), [vault.Image(b"a", 1, b"x", 1)])
+        self.assertEqual(vault.read(self.desk.files()), [vault.Image(b"a", 1, b"x", 1)])
         self.check_quiet(self.desk.run(BACKUP, payload=b"y"), 0, b"a_2\n")
 
     def test_an_output_that_takes_nothing(self):
@@ -123,7 +132,7 @@ class Inputs(DeskTest):
 
     def is_read_fault(self, answer):
         self.check(answer, 19, b"read fault\n")
-        self.assertEqual(vault.read(self.desk.bytes()), [])
+        self.assertEqual(vault.read(self.desk.files()), [])
         self.check_quiet(self.desk.run(BACKUP, payload=b"y"), 0, b"a_1\n")
 
     def test_an_input_that_is_a_folder(self):
@@ -143,9 +152,9 @@ class Inputs(DeskTest):
         """The vault's own file must not take the number of the closed input: it would be read as the payload."""
         ran = subprocess.run(["sh", "-c", 'exec "$@" <&-', "sh", *self.desk.words([BACKUP])], capture_output=True)
         self.assertEqual((ran.returncode, ran.stdout), (19, b"read fault\n"))
-        self.assertEqual(vault.read(self.desk.bytes()), [])
+        self.assertEqual(vault.read(self.desk.files()), [])
 
     def test_no_stream_is_open(self):
         ran = subprocess.run(["sh", "-c", 'exec "$@" <&- >&- 2>&-', "sh", *self.desk.words([BACKUP])])
         self.assertEqual(ran.returncode, 20)
-        self.assertEqual(vault.read(self.desk.bytes()), [])
+        self.assertEqual(vault.read(self.desk.files()), [])

@@ -9,7 +9,7 @@ from desk import LATEST, DeskTest
 from killer import Killer
 from rows import RowsTest, line_of, replies_of
 from streams import File, image, made, read, stream, tree
-from test_trace import Step, Traced, joined, whole_replies
+from test_trace import OPENED_EMPTY, Step, Traced, joined, recorded, whole_replies
 
 # A policy of files with a schedule of each kind, and a client.
 SITE = [
@@ -165,12 +165,12 @@ class Rows(RowsTest):
 
     def refuses(self, rows):
         """Runs rows that are refused on a vault with a chain, as commands and as a session: nothing changes."""
-        self.desk.put(vault.journal(*SITE_RECORDS, *CHAIN_RECORDS))
-        before = self.desk.bytes()
+        self.desk.put(vault.files(*SITE_RECORDS, *CHAIN_RECORDS))
+        before = self.desk.files()
         self.run_alone(self.desk, rows)
         self.run_session(self.desk, rows)
         self.run_session(self.desk, [(f"{RESTORE} before=4000", 0, TREE)])
-        self.assertTrue(self.desk.bytes() == before, "a refusal has written")
+        self.assertTrue(self.desk.files() == before, "a refusal has written")
 
     def test_good_streams(self):
         for name, files in GOOD_STREAMS.items():
@@ -428,16 +428,16 @@ class Refusals(RowsTest):
         )
 
     def test_a_payload_that_is_too_long(self):
-        self.desk.put(vault.journal(*SITE_RECORDS))
-        before = self.desk.bytes()
+        self.desk.put(vault.files(*SITE_RECORDS))
+        before = self.desk.files()
         for payload in (bytes(desk.LONGEST + 1), stream(File(b"/a", 1, bytes(desk.LONGEST)))):
             self.check_quiet(self.desk.run(f"@5 {BACKUP}", payload=payload), 15, b"too many bytes: 67108865 of 67108864\n")
-        self.assertEqual(self.desk.bytes(), before)
+        self.assertEqual(self.desk.files(), before)
 
     def test_the_longest_stream(self):
         bare = len(stream(File(b"/a", 900, b"")))
         most = stream(File(b"/a", 900, random.Random(8).randbytes(desk.LONGEST - bare)))
-        self.desk.put(vault.journal(*SITE_RECORDS))
+        self.desk.put(vault.files(*SITE_RECORDS))
         self.assertEqual(len(most), desk.LONGEST)
         self.check_quiet(self.desk.run(f"@5 {BACKUP}", payload=most), 0, b"alpha_5\n")
         answer = self.desk.run(RESTORE)
@@ -480,11 +480,11 @@ class Refusals(RowsTest):
     def restores_of(self, images, rows):
         """Runs restores, as commands and as a session, on a vault that has such images."""
         self.desk = self.new_desk()
-        self.desk.put(vault.journal(*SITE_RECORDS, *images))
-        before = self.desk.bytes()
+        self.desk.put(vault.files(*SITE_RECORDS, *images))
+        before = self.desk.files()
         self.run_alone(self.desk, rows)
         self.run_session(self.desk, rows)
-        self.assertTrue(self.desk.bytes() == before, "a restore has written")
+        self.assertTrue(self.desk.files() == before, "a restore has written")
 
     def test_a_chain_that_lacks_an_image(self):
         full, diff, cumul, last = CHAIN_RECORDS
@@ -509,9 +509,9 @@ class Refusals(RowsTest):
             for schedule, base in zip("dc", bases):
                 with self.subTest(images=[it.time for it in images], schedule=schedule):
                     self.desk = self.new_desk()
-                    self.desk.put(vault.journal(*SITE_RECORDS, *images))
+                    self.desk.put(vault.files(*SITE_RECORDS, *images))
                     self.check_quiet(self.desk.run(f"@5000 {BACKUP} schedule={schedule}", payload=TREE), 0, b"alpha_5000\n")
-                    self.assertEqual(vault.read(self.desk.bytes())[-1].base, base)
+                    self.assertEqual(vault.read(self.desk.files())[-1].base, base)
 
     def test_images_that_are_none_of_files(self):
         """They are read in the order of the chain, and the first that is none is told."""
@@ -540,7 +540,7 @@ class Refusals(RowsTest):
         more = File(b"/a", 1500, bytes(rest + 2))
         images = [full._replace(payload=first), diff._replace(payload=image(more, File(b"/b")))]
         self.assertEqual(sum(len(it.payload) for it in images), desk.LONGEST)
-        self.desk.put(vault.journal(*SITE_RECORDS, *images))
+        self.desk.put(vault.files(*SITE_RECORDS, *images))
         answer = self.desk.run(RESTORE)
         self.assertTrue(answer.status == 0 and answer.out == stream(more, some), "the tree differs")
 
@@ -573,7 +573,7 @@ class RawPolicies(RowsTest):
         )
 
     def test_the_length_of_the_latest_image_alone(self):
-        self.desk.put(vault.journal(vault.Image(b"a", 1, b"x", 1), vault.Image(b"a", 2, bytes(desk.LONGEST + 1), 2), vault.Image(b"a", 3, b"y", 3)))
+        self.desk.put(vault.files(vault.Image(b"a", 1, b"x", 1), vault.Image(b"a", 2, bytes(desk.LONGEST + 1), 2), vault.Image(b"a", 3, b"y", 3)))
         restore = "bprestore client=a policy=adhoc"
         rows = [(f"{restore} before=1", 0, b"x"), (f"{restore} before=2", 15, f"too many bytes: {desk.LONGEST + 1} of {desk.LONGEST}"), (restore, 0, b"y")]
         self.run_alone(self.desk, rows)
@@ -614,7 +614,7 @@ class Drawn(RowsTest):
             rows.append((f"@{now} {BACKUP} schedule={'fdc'[kind]}", 0, f"alpha_{now}", stream(*files)))
         rows += [(f"{RESTORE} before={moment + more}", 0, text) for moment, text in trees for more in (0, 99)]
         self.run_session(self.desk, rows)
-        found = vault.read(self.desk.bytes())[len(SITE) :]
+        found = vault.read(self.desk.files())[len(SITE) :]
         self.assertEqual([it.payload for it in found], [image(*files) for _, _, files in images])
         self.run_alone(self.desk, rows[-6:])
 
@@ -659,23 +659,23 @@ class Kills(DeskTest):
     def test_kills_at_any_moment(self):
         """Each backup of whose reply a byte was seen is there, whole and with its base, and at most one more; and each restores."""
         draw = random.Random(21)
-        self.desk.put(vault.journal(*SITE_RECORDS))
+        self.desk.put(vault.files(*SITE_RECORDS))
         began = time.monotonic()
         images, trees, text = self.requests(draw, 1)
         self.check_quiet(self.desk.run("session", payload=text), 0, b"".join(desk.frame(0, it.id + b"\n") for it in images))
-        self.assertEqual(vault.read(self.desk.bytes())[len(SITE) :], images)
+        self.assertEqual(vault.read(self.desk.files())[len(SITE) :], images)
         killer, known = Killer(13, time.monotonic() - began), []
         for turn in range(self.ROUNDS):
             if turn % 6 == 0:
                 self.desk, known, trees = self.new_desk(), [], []
-                self.desk.put(vault.journal(*SITE_RECORDS))
+                self.desk.put(vault.files(*SITE_RECORDS))
             new, more, text = self.requests(draw, len(known) + 1)
             process = self.desk.start("session")
             out = killer.talk(process, text)
             replies = [desk.frame(0, it.id + b"\n") for it in new]
             self.assertTrue(b"".join(replies).startswith(out), "a reply differs")
             seen = next(count for count in range(len(new) + 1) if len(b"".join(replies[:count])) >= len(out))
-            found = vault.read(self.desk.bytes())[len(SITE) :]
+            found = vault.read(self.desk.files())[len(SITE) :]
             wanted = [*known, *new]
             self.assertTrue(found == wanted[: len(found)], "the vault has images that were not sent, or not whole, or not in order")
             self.assertIn(len(found) - len(known), (seen, seen + 1), "an acknowledged image is gone, or more than one was under way")
@@ -689,21 +689,20 @@ class Kills(DeskTest):
 
 class Order(Traced):
     def test_each_record_is_synced_before_its_gate_and_its_gate_before_the_reply(self):
-        self.desk.put(vault.journal(*SITE_RECORDS))
+        self.desk.put(vault.files(*SITE_RECORDS))
         rows = CHAIN[len(SITE) :]
         answer, lines = self.trace("session", payload=b"".join(line_of(words, payload) for words, _, _, payload in rows) + line_of(f"{RESTORE} before=4000"))
         self.assertEqual(answer.status, 0)
-        wanted = []
-        for entry, gate in zip(CHAIN_RECORDS, vault.gates(*SITE_RECORDS, *CHAIN_RECORDS)[len(SITE) :]):
-            wanted += [Step("write", gate + 1, len(vault.record(entry))), Step("sync"), Step("write", gate, 1), Step("sync")]
-            wanted += [Step("reply", 0, len(desk.frame(0, entry.id + b"\n")))]
+        wanted, gates = [], vault.gates(*SITE_RECORDS, *CHAIN_RECORDS)[len(SITE) :]
+        for entry, gate, end in zip(CHAIN_RECORDS, gates, gates[1:]):
+            wanted += [*recorded(gate, end), Step("reply", 0, len(desk.frame(0, entry.id + b"\n")))]
         # (the restore has nothing before its reply)
         wanted = whole_replies([*wanted, Step("reply", 0, len(desk.frame(0, TREE)))])
-        steps = whole_replies(joined(self.steps(lines)))
+        steps = whole_replies([step for step in joined(self.steps(lines)) if step.file == vault.JOURNAL and step.what != "sync folder"])
         self.assertEqual(steps[-len(wanted) :], wanted)
 
     def test_a_bad_stream_writes_nothing(self):
-        self.desk.put(vault.journal(*SITE_RECORDS))
+        self.desk.put(vault.files(*SITE_RECORDS))
         answer, lines = self.trace(f"@5 {BACKUP}", payload=TREE[:-1])
         self.check(answer, 23, b"bad stream at 50\n")
-        self.assertEqual([step.what for step in joined(self.steps(lines))], ["sync", "sync folder", "reply"])
+        self.assertEqual(joined(self.steps(lines))[:-1], OPENED_EMPTY)

@@ -3,9 +3,7 @@
 import os
 import pty
 import re
-import resource
 import shutil
-import signal
 import subprocess
 from pathlib import Path
 
@@ -14,6 +12,7 @@ import vault
 from desk import PROGRAM, Desk, DeskTest
 from rows import line_of
 from test_backup import HELLO
+from test_faults import with_files_of
 
 USAGE = Path(desk.ROOT, "share/usage.txt").read_bytes()
 NAME = "a name, 1 to 64 of A-Z a-z 0-9 . _ -"
@@ -130,7 +129,7 @@ class Mistakes(DeskTest):
     def test_words_over_a_vault(self):
         self.desk.put(HELLO)
         self.tells(self.desk)
-        self.assertEqual(self.desk.bytes(), HELLO)
+        self.assertEqual(self.desk.files(), HELLO)
 
     def test_no_folder(self):
         ran = subprocess.run([PROGRAM], input=b"", capture_output=True, timeout=desk.PATIENCE)
@@ -157,7 +156,7 @@ class Mistakes(DeskTest):
         lines = b"".join(line_of(words) for words, _, _ in MISTAKES if words.isascii())
         answer = self.desk.run("session", payload=lines)
         self.assertEqual((answer.status, answer.err), (0, b""))
-        self.assertEqual(self.desk.bytes(), HELLO)
+        self.assertEqual(self.desk.files(), HELLO)
 
     def test_site_files(self):
         self.desk.put(HELLO)
@@ -168,7 +167,7 @@ class Mistakes(DeskTest):
                     self.check(answer, 2, b"bad request at 1\n")
                     start = "bpdesk: the site file" + (" " if line.startswith(("is ", "has ")) else ", ")
                     self.assertRegex(answer.err.decode(), rf"\A{re.escape(start + line)}[^\n]*\n\Z")
-        self.assertEqual(self.desk.bytes(), HELLO)
+        self.assertEqual(self.desk.files(), HELLO)
 
     def test_bytes_that_are_no_text(self):
         for file in (b"\xff", b"[[client]]\nname = '\xff'\n", bytes(1000)):
@@ -227,7 +226,7 @@ class Folders(DeskTest):
                 self.skipTest(f"the program cannot be run as another user here: {it}")
         os.chmod(self.desk.file(), 0o444)
         self.fails(one, f"cannot open {one.folder}/0.nbv: Permission denied", **how)
-        self.assertEqual(self.desk.bytes(), HELLO)
+        self.assertEqual(self.desk.files(), HELLO)
 
     def test_a_vault_in_use(self):
         held = self.desk.start("session")
@@ -239,18 +238,13 @@ class Folders(DeskTest):
 
     def test_a_disk_that_is_full(self):
         self.desk.put(HELLO)
-
-        def limit():
-            signal.signal(signal.SIGXFSZ, signal.SIG_IGN)
-            resource.setrlimit(resource.RLIMIT_FSIZE, (1_000, 1_000))
-
-        how = {"preexec_fn": limit, "restore_signals": False}
-        answer = self.desk.run(self.BACKUP, payload=bytes(300_000), **how)
-        self.says(answer, 18, b"disk fault\n", f"cannot write {self.desk.folder}/0.nbv: File too large")
-        text = line_of(self.BACKUP, bytes(300_000)) + line_of(self.BACKUP, b"x")
-        answer = self.desk.run("session", payload=text, **how)
-        self.says(answer, 18, desk.frame(18, b"disk fault\n"), f"cannot write {self.desk.folder}/0.nbv: File too large")
-        self.assertEqual(vault.read(self.desk.bytes()), vault.read(HELLO))
+        for payload, most, file in ((bytes(300_000), 1_000, 2), (b"hello", len(HELLO[0]), 0)):
+            line = f"cannot write {self.desk.folder}/{file}.nbv: File too large"
+            self.says(self.desk.run(self.BACKUP, payload=payload, **with_files_of(most)), 18, b"disk fault\n", line)
+            text = line_of(self.BACKUP, payload) + line_of(self.BACKUP, b"x")
+            answer = self.desk.run("session", payload=text, **with_files_of(most))
+            self.says(answer, 18, desk.frame(18, b"disk fault\n"), line)
+            self.assertEqual(vault.read(self.desk.files()), vault.read(HELLO))
 
     def test_a_file_that_is_no_vault(self):
         line = f"{self.desk.folder}/0.nbv is no vault; the file is left as it is"

@@ -14,11 +14,12 @@ def mode(path):
 class Permissions(DeskTest):
     def test_what_is_made_is_for_its_owner_alone(self):
         for mask in (0, 0o022, 0o077):
-            for words in ("@1 bpbackup client=a", "bprestore id=a_1", "session"):
+            for words, payload, files in (("@1 bpbackup client=a", b"x", ["0.nbv", "2.nbv"]), ("bprestore id=a_1", b"", ["0.nbv"]), ("session", b"", ["0.nbv"])):
                 with self.subTest(mask=oct(mask), words=words):
                     one = self.new_desk()
-                    one.run(words, umask=mask)
-                    self.assertEqual((mode(one.folder), mode(one.file())), (0o700, 0o600))
+                    one.run(words, payload=payload, umask=mask)
+                    self.assertEqual(mode(one.folder), 0o700)
+                    self.assertEqual({name: mode(os.path.join(one.folder, name)) for name in os.listdir(one.folder)}, dict.fromkeys(files, 0o600))
 
     def test_the_folders_above_are_made_so_too(self):
         for path in ("one/two/vault", "one/three/vault/"):

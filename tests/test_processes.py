@@ -41,15 +41,15 @@ class TwoAtOnce(DeskTest):
     def one_waits_while_another_runs(self, images):
         held = self.desk.start("@1 bpbackup client=first")
         # The vault is opened before the payload is read, so the first has it while its input stays open.
-        length = len(vault.journal(*images))
+        length = len(vault.files(*images)[0])
         self.assertTrue(waits_for(self.has_opened(held, length)), "the vault was not opened before the payload came")
         time.sleep(0.1)
         for _ in range(2):
             self.check_told(self.desk.run("@1 bpbackup client=second", payload=b"second"), 18, b"disk fault\n", *IN_USE)
-        self.assertEqual(vault.read(self.desk.bytes()), images, "the refused process wrote to the vault")
+        self.assertEqual(vault.read(self.desk.files()), images, "the refused process wrote to the vault")
         held.stdin.write(b"payload of the first")
         self.check_quiet(self.ending(held), 0, b"first_1\n")
-        self.assertEqual(vault.read(self.desk.bytes()), [*images, vault.Image(b"first", 1, b"payload of the first", 1)])
+        self.assertEqual(vault.read(self.desk.files()), [*images, vault.Image(b"first", 1, b"payload of the first", 1)])
         self.check_quiet(self.desk.run("@1 bpbackup client=second", payload=b"second"), 0, b"second_1\n")
 
     def test_a_new_vault(self):
@@ -88,7 +88,7 @@ class TwoAtOnce(DeskTest):
         self.assertEqual({answer.status for answer in answers} - {0, 18}, set())
         done = sorted(answer.out.rstrip(b"\n") for answer in answers if answer.status == 0)
         self.assertTrue(done)
-        self.assertEqual(sorted(image.id for image in vault.read(self.desk.bytes())), done)
+        self.assertEqual(sorted(image.id for image in vault.read(self.desk.files())), done)
 
 
 class Kills(DeskTest):
@@ -109,11 +109,13 @@ class Kills(DeskTest):
             out = killer.talk(process, payload)
             last = max([image.time for image in known], default=0)
             new = vault.Image(b"a", max(turn, last + 1), payload, turn)
-            found = vault.read(self.desk.bytes()) if self.desk.file().exists() else []
+            found = vault.read(self.desk.files())
             self.assertTrue(found in (known, [*known, new]), "the vault has other images than those that were sent to it")
             if out:
                 self.assertTrue((new.id + b"\n").startswith(out))
                 self.assertTrue(found == [*known, new], "an acknowledged image is gone")
             known = found
+            # (and what a killed one left in the pool has not taken the slots of those behind it)
+            self.assertTrue(not known or self.desk.bytes().startswith(vault.files(*known)[0][:-1]), "the journal differs")
         self.check_quiet(self.desk.run("@1 bpbackup client=a", payload=b"x"), 0, b"a_%d\n" % (max([0, *(image.time for image in known)]) + 1))
         self.assertGreater(killer.killed, self.ROUNDS // 10, "too few processes were killed before their end to tell anything")

@@ -51,7 +51,7 @@ class Restore(DeskTest):
         for words, status, out in rows:
             with self.subTest(words=words):
                 self.check_quiet(self.desk.run(words), status, out)
-                self.assertEqual(self.desk.bytes(), HELLO)
+                self.assertEqual(self.desk.files(), HELLO)
 
     def test_bad_words(self):
         for words, index in with_moments(BAD_WORDS):
@@ -74,7 +74,7 @@ class Restore(DeskTest):
 
     def test_the_longest(self):
         most = random.Random(5).randbytes(desk.LONGEST)
-        self.desk.put(vault.journal(vault.Image(b"a", 1, most, 1)))
+        self.desk.put(vault.files(vault.Image(b"a", 1, most, 1)))
         answer = self.desk.run("bprestore id=a_1")
         self.assertEqual(answer.status, 0)
         self.assertTrue(answer.out == most)
@@ -100,4 +100,4 @@ class Restore(DeskTest):
         self.desk.put(HELLO)
         with open("/dev/full", "wb", buffering=0) as full:
             self.assertEqual(self.desk.run("bprestore id=alpha_1000", stdout=full).status, 20)
-        self.assertEqual(self.desk.bytes(), HELLO)
+        self.assertEqual(self.desk.files(), HELLO)

@@ -189,7 +189,7 @@ class Endings(DeskTest):
     def test_an_opening_that_is_refused(self):
         self.desk.put(bytes(18))
         self.check_quiet(self.desk.run("session", payload=self.TEXT), 22, frame(22, b"not a vault at 0\n"))
-        self.desk.put(HELLO[:50])
+        self.desk.put(HELLO[0][:50])
         self.check_quiet(self.desk.run("session", payload=b""), 22, frame(22, b"not a vault at 16\n"))
 
     def test_a_folder_that_cannot_be_made(self):
@@ -216,7 +216,7 @@ class Endings(DeskTest):
         with open("/dev/full", "wb", buffering=0) as full:
             self.assertEqual(self.desk.run("session", payload=self.TEXT, stdout=full).status, 20)
         # The first request was carried out, and no other.
-        self.assertEqual(vault.read(self.desk.bytes()), [vault.Image(b"b", 5, b"x", 5)])
+        self.assertEqual(vault.read(self.desk.files()), [vault.Image(b"b", 5, b"x", 5)])
 
     def test_an_output_whose_reader_leaves(self):
         taken, given = os.pipe()
@@ -230,14 +230,15 @@ class Endings(DeskTest):
         answer = process.communicate(b"@6 bpbackup client=b\n@7 bpbackup client=b\n", timeout=desk.PATIENCE)
         unsent = b"bpdesk: the reply could not be written: Broken pipe; the request may have been done\n"
         self.assertEqual((process.returncode, answer[1]), (20, process.made + unsent))
-        self.assertEqual([image.time for image in vault.read(self.desk.bytes())], [5, 6])
+        self.assertEqual([image.time for image in vault.read(self.desk.files())], [5, 6])
 
 
 class Many(DeskTest):
     def test_ten_thousand_backups_and_a_restore_of_each(self):
         draw = random.Random(7)
         count = 10_000
-        payloads = [draw.randbytes(draw.randrange(40)) for _ in range(count)]
+        # (a thousand that differ, each of which takes a slot of the pool and a sync more)
+        payloads = draw.choices([draw.randbytes(draw.randrange(40)) for _ in range(1_000)], k=count)
         text = b"".join(b"@%d bpbackup client=c%d payload=%d\n%s" % (turn + 1, turn % 10, len(it), it) for turn, it in enumerate(payloads))
         answer = self.desk.run("session", payload=text)
         self.assertEqual(answer.status, 0)

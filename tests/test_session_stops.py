@@ -6,7 +6,7 @@ import time
 import vault
 from desk import DeskTest, frame
 from killer import Killer
-from test_trace import Step, Traced, joined, whole_replies
+from test_trace import Step, Traced, joined, recorded, whole_replies
 
 
 class Kills(DeskTest):
@@ -38,7 +38,7 @@ class Kills(DeskTest):
             self.assertTrue(b"".join(replies).startswith(out), "a reply differs")
             # The backups of whose reply a byte was seen.
             seen = next(count for count in range(len(new) + 1) if len(b"".join(replies[:count])) >= len(out))
-            found = vault.read(self.desk.bytes()) if self.desk.file().exists() else []
+            found = vault.read(self.desk.files())
             self.assertTrue(found[: len(known)] == known, "an earlier image is gone")
             more = found[len(known) :]
             self.assertTrue(more == new[: len(more)], "the vault has images that were not sent, or not in order")
@@ -50,14 +50,17 @@ class Kills(DeskTest):
 
 
 class Order(Traced):
-    def test_each_record_is_synced_before_its_gate_and_its_gate_before_the_reply(self):
+    def test_the_pieces_are_synced_before_the_record_and_it_before_its_gate_and_that_before_the_reply(self):
         images = [vault.Image(b"a", turn, b"x" * (turn * 1_000), turn) for turn in range(1, 6)]
         text = b"".join(b"@%d bpbackup client=a payload=%d\n%s" % (it.time, len(it.payload), it.payload) for it in images)
         answer, lines = self.trace("session", payload=text)
         self.assertEqual(answer.status, 0)
         wanted = []
-        for image, gate in zip(images, vault.gates(*images)):
-            wanted += [Step("write", gate + 1, len(vault.record(image))), Step("sync"), Step("write", gate, 1), Step("sync")]
-            wanted += [Step("reply", 0, len(frame(0, image.id + b"\n")))]
+        gates = vault.gates(*images)
+        for number, (image, gate, end) in enumerate(zip(images, gates, gates[1:])):
+            wanted += [Step("write", number * vault.SEGMENT, len(image.payload), vault.POOL), Step("sync", file=vault.POOL)]
+            # (its folder too, once it was made)
+            wanted += [Step("sync folder")] * (number == 0)
+            wanted += [*recorded(gate, end), Step("reply", 0, len(frame(0, image.id + b"\n")))]
         steps = whole_replies(joined(self.steps(lines)))
         self.assertEqual(steps[-len(wanted) :], wanted)

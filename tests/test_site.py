@@ -410,7 +410,7 @@ class Rows(RowsTest):
         )
 
     def test_the_earliest_image_of_a_client_is_that_of_the_lowest_time(self):
-        self.desk.put(vault.journal(vault.Image(b"a", 10, b"x", 10), vault.Image(b"a", 5, b"y", 5), vault.Image(b"a", 7, b"z", 7)))
+        self.desk.put(vault.files(vault.Image(b"a", 10, b"x", 10), vault.Image(b"a", 5, b"y", 5), vault.Image(b"a", 7, b"z", 7)))
         self.check_quiet(self.desk.run("client remove name=a"), 5, b"a in use by a_5\n")
 
     def test_no_input_is_read(self):

@@ -294,7 +294,7 @@ class Inputs(DeskTest):
             self.check(self.desk.run("bpload", payload=None, stdin=source), 19, b"read fault\n")
         finally:
             os.close(source)
-        self.assertEqual(vault.read(self.desk.bytes()), [])
+        self.assertEqual(vault.read(self.desk.files()), [])
 
     def test_a_session_s_input_that_ends_inside_a_file(self):
         text = b"bpload payload=%d\n%s" % (len(OFFICE) + 1, OFFICE)
@@ -303,7 +303,7 @@ class Inputs(DeskTest):
 
     def test_a_payload_that_is_too_long(self):
         self.check_quiet(self.desk.run("bpload", payload=b"#" * (desk.LONGEST + 1)), 15, b"too many bytes: 67108865 of 67108864\n")
-        self.assertEqual(vault.read(self.desk.bytes()), [])
+        self.assertEqual(vault.read(self.desk.files()), [])
 
     def test_words_behind_it(self):
         """They are bad before any input is read."""

@@ -147,8 +147,8 @@ class Written(RowsTest):
         )
 
     def test_a_refusal_writes_nothing(self):
-        self.desk.put(vault.journal(*SITE, UNDER_P))
-        before = self.desk.bytes()
+        self.desk.put(vault.files(*SITE, UNDER_P))
+        before = self.desk.files()
         for words, status in (
             ("client add name=a", 3),
             ("client remove name=c", 4),
@@ -158,19 +158,19 @@ class Written(RowsTest):
         ):
             with self.subTest(words=words):
                 self.assertEqual(self.desk.run(words).status, status)
-                self.assertEqual(self.desk.bytes(), before)
+                self.assertEqual(self.desk.files(), before)
 
     def test_the_reader_reads_what_the_speller_spells(self):
         entries = [*SITE, UNDER_P, vault.settings(), FIRST]
-        self.assertEqual(vault.read(vault.journal(*entries)), entries)
+        self.assertEqual(vault.read(vault.files(*entries)), entries)
 
 
 class Opening(DeskTest):
     def opens(self, entries, status=4, out=b"none unknown\n", words="client remove name=none"):
         one = self.new_desk()
-        one.put(vault.journal(*entries))
+        one.put(vault.files(*entries))
         self.check_quiet(one.run(words), status, out)
-        self.assertEqual(one.bytes(), vault.journal(*entries))
+        self.assertEqual(one.files(), vault.files(*entries))
 
     def test_settings_that_fit(self):
         self.opens([])

@@ -66,7 +66,7 @@ class Limits(RowsTest):
                 rows += [(line.format(more), 15, too_many(kind, limit))]
                 self.run_session(one, rows)
                 self.run_alone(one, rows[-1:])
-                self.assertEqual(len(vault.read(one.bytes())), len(rows) - 1)
+                self.assertEqual(len(vault.read(one.files())), len(rows) - 1)
 
     def is_refused_whole(self, kind, limit, file):
         """A load of one more than there may be is refused, and nothing of it is there."""
@@ -122,7 +122,7 @@ class Limits(RowsTest):
         rows = [(f"@{number + 1} bpbackup client=c{number}", 0, f"c{number}_{number + 1}", b"x") for number in range(1_024)]
         rows += [("@5 bpbackup client=more", 15, too_many("clients", 1_024), b"x"), ("client add name=more", 15, too_many("clients", 1_024))]
         self.run_session(self.desk, rows)
-        self.assertEqual(len(vault.read(self.desk.bytes())), 1_024)
+        self.assertEqual(len(vault.read(self.desk.files())), 1_024)
         self.run_alone(self.desk, rows[-2:])
 
     def test_the_order_of_a_backup_s_refusals_at_the_limit(self):
@@ -212,10 +212,11 @@ class Limits(RowsTest):
         self.is_refused_whole("schedules", 32, schedules(33))
 
     def test_images(self):
-        """A vault with one image less than there may be: an image takes 66 bytes, so it has some 69 MB."""
+        """A vault with one image less than there may be: an image of no bytes takes 74 here, so it has some 78 MB."""
         count = 1_048_576
         full = f"too many images: {count} of {count}"
-        head, tail = vault.record(vault.Image(b"a", vault.LATEST, b"", 0)).split(vault.LATEST.to_bytes(8, "big"))
+        body = vault.backup_body(vault.Image(b"a", vault.LATEST, b"", 0), vault.Segments((), ()))
+        head, tail = vault.record(body).split(vault.LATEST.to_bytes(8, "big"))
         images = [head + time.to_bytes(8, "big") + tail for time in range(1, count + 2)]
         end = bytes([vault.CLOSED])
         self.desk.put(vault.HEADER + b"".join(images[: count - 1]) + end)

@@ -6,7 +6,7 @@ import vault
 from desk import DeskTest, frame
 from killer import Killer
 from rows import line_of
-from test_trace import Step, Traced, joined, whole_replies
+from test_trace import OPENED_EMPTY, Step, Traced, joined, recorded, whole_replies
 
 # Policies, each with its clients, of which a load has so many.
 CLIENTS = 16
@@ -62,7 +62,7 @@ class Kills(DeskTest):
             replies = [reply for _, reply, _ in requests]
             self.assertTrue(b"".join(replies).startswith(out), "a reply differs")
             seen = next(count for count in range(len(replies) + 1) if len(b"".join(replies[:count])) >= len(out))
-            found = vault.read(self.desk.bytes()) if self.desk.file().exists() else []
+            found = vault.read(self.desk.files())
             wanted = [*known, *(record for _, _, record in requests)]
             self.assertTrue(found == wanted[: len(found)], "the vault has records that were not sent, or not whole, or not in order")
             self.assertIn(len(found) - len(known), (seen, seen + 1), "an answered change is gone, or more than one was under way")
@@ -90,19 +90,19 @@ class Order(Traced):
         answer, lines = self.trace("session", payload=b"".join(request for request, _, _ in requests))
         self.assertEqual(answer.status, 0)
         wanted = []
-        for (_, reply, record), gate in zip(requests, vault.gates(*(record for _, _, record in requests))):
-            wanted += [Step("write", gate + 1, len(vault.record(record))), Step("sync"), Step("write", gate, 1), Step("sync")]
-            wanted += [Step("reply", 0, len(reply))]
-        steps = whole_replies(joined(self.steps(lines)))
+        gates = vault.gates(*(entry for _, _, entry in requests))
+        for (_, reply, _), gate, end in zip(requests, gates, gates[1:]):
+            wanted += [*recorded(gate, end), Step("reply", 0, len(reply))]
+        steps = whole_replies([step for step in joined(self.steps(lines)) if step.file == vault.JOURNAL and step.what != "sync folder"])
         self.assertEqual(steps[-len(wanted) :], wanted)
 
     def test_a_refusal_writes_nothing(self):
-        self.desk.put(vault.journal(vault.settings(b"client add name=a")))
+        self.desk.put(vault.files(vault.settings(b"client add name=a")))
         for words, payload, status in (("client add name=a", b"", 3), ("bpload", b'[[client]]\nname = "b"\n[[client]]\nname = "a"\n', 3), ("bpload", b"no site file", 2)):
             with self.subTest(words=words, status=status):
                 answer, lines = self.trace(words, payload=payload)
                 self.assertEqual(answer.status, status)
-                self.assertEqual([step.what for step in joined(self.steps(lines))], ["sync", "sync folder", "reply"])
+                self.assertEqual(joined(self.steps(lines))[:-1], OPENED_EMPTY)
 
 
 class Failing(Traced):
@@ -114,9 +114,8 @@ class Failing(Traced):
         before = [vault.settings(b"client add name=a")]
         for when in range(1, 20):
             self.desk = self.new_desk()
-            self.desk.put(vault.journal(*before))
-            places = ["-P", str(self.desk.file()), "-P", self.desk.folder]
-            answer, lines = self.trace("bpload", payload=self.FILE, more=[*places, "-e", f"inject={calls}:error=EIO:when={when}"])
+            self.desk.put(vault.files(*before))
+            answer, lines = self.trace("bpload", payload=self.FILE, more=[*self.on_the_vault(), "-e", f"inject={calls}:error=EIO:when={when}"])
             if not any("(INJECTED)" in line for line in lines):
                 self.check(answer, 0, b"%d\n" % len(self.LINES))
                 return when - 1
@@ -124,7 +123,7 @@ class Failing(Traced):
                 self.check(answer, 18, b"disk fault\n")
                 self.check_quiet(self.desk.run("client add name=b"), 0, b"")
                 last = vault.settings(b"client add name=b")
-                self.assertIn(vault.read(self.desk.bytes()), ([*before, last], [*before, vault.settings(*self.LINES), last]))
+                self.assertIn(vault.read(self.desk.files()), ([*before, last], [*before, vault.settings(*self.LINES), last]))
         self.fail("there is no end to these calls")
 
     def test_a_sync_that_fails(self):

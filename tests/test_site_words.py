@@ -469,7 +469,7 @@ class Words(RowsTest):
                 self.assertEqual([words for words, reply in zip(good, replies) if reply[0] == 2], [])
                 done = tuple(words.encode() for words, reply in zip(good, replies) if reply[0] == 0)
                 if "bpbackup" not in line[0]:
-                    self.assertEqual(one.bytes(), vault.journal(*(vault.settings(words) for words in done)))
+                    self.assertEqual(one.files(), vault.files(*(vault.settings(words) for words in done)))
                     # (a new vault's opening takes the lines in again)
                     self.assertEqual(one.run("bpplsched remove policy=adhoc schedule=none").status, 4)
 

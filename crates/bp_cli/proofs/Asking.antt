@@ -1,6 +1,6 @@
 -- Why the words of a single request are answered so.
 use Rattle.std.proofs.Common.{◌≡◌, inl, inr, ℕ, ◌≤◌, List, length, refl, sym, subst}
-use Rattle.std.specs.Prelude.{Bool, Option, Ok}
+use Rattle.std.specs.Prelude.{Bool, Option, Some, Ok}
 use Rattle.site_types.specs.Answers.{NeedsMemory}
 use Rattle.site_types.specs.Requests.{takes_payload}
 use Rattle.site_types.specs.declared.answer.Answer.{Answer}
@@ -12,7 +12,8 @@ use Rattle.vault_disk.specs.Steps.{Rose}
 use Rattle.vault_disk.specs.Input.{Input}
 use Rattle.vault_disk.specs.Ticks.{Ticks}
 use Rattle.desk_model.specs.State.{State}
-use Rattle.site_desk.specs.Desk.{IsOfRequest}
+use Rattle.vault_ledger.specs.Ledger.{stands}
+use Rattle.desk_index.specs.Answers.{IsOfRequest}
 use Rattle.site_desk.specs.Stands.{opened}
 use Rattle.bp_cli.specs.Words.{timed_request}
 use Rattle.bp_cli.specs.Gather.{IsUnread, IsUnasked, IsUntouched, IsGiven, IsUngathered, Gathers}
@@ -43,12 +44,12 @@ ungathered_rose _ takes named d d' input input' ticks ticks' is = absurd is
 
 -- a desk answered
 module _ (words : List (List ℕ)) (tells : Type 0) (seen : Image) (input input' : Input) (ticks ticks' : Ticks) where
-  pub asked_heard : (asked : TimedRequest) (state : State) (o : Outcome) → timed_request words ≡ Ok asked → (tells → opened seen ≡ Ok state) → IsExecuted asked input input' ticks ticks' o → (tells → IsModels state o) → IsAsked words tells seen input input' ticks ticks' o
+  pub asked_heard : (asked : TimedRequest) (state : State) (o : Outcome) → timed_request words ≡ Ok asked → (tells → opened seen ≡ Ok state) → IsExecuted asked input input' ticks ticks' o → (tells → stands seen ≡ Some state → IsModels state o) → IsAsked words tells seen input input' ticks ticks' o
   asked_heard asked state (refused OutOfMemory) words_ask opens executed models = (inr (record { asks = record { asked = asked; words_ask = words_ask }; takes = executed.0 }), executed.1)
   asked_heard asked state (refused (BadRequest index)) words_ask opens executed models = absurd executed
   asked_heard asked state (refused DiskFault) words_ask opens executed models = absurd executed
   asked_heard asked state (refused (NotAVault offset)) words_ask opens executed models = absurd executed
-  asked_heard asked state o words_ask opens executed models = record { asks = record { asked = asked; words_ask = words_ask }; opening = record { state = state; stands = opens }; executed = executed; models = models }
+  asked_heard asked state o words_ask opens executed models = record { asks = record { asked = asked; words_ask = words_ask }; opening = record { state = state; reads = opens }; executed = executed; models = models }
 
   -- want of memory for the text of an answer is asked for as the answer is
   pub asked_forgotten : (o : Outcome) → IsAsked words tells seen input input' ticks ticks' o → NeedsMemory (said o) → IsAsked words tells seen input input' ticks ticks' (forgotten o)
@@ -66,7 +67,7 @@ module _ (words : List (List ℕ)) (tells : Type 0) (seen : Image) (input input'
         asks = is.asks;
         opening = is.opening;
         executed = record { of = record { request = x.of.request; kind = tt }; payload = x.payload; short = x.short; moment = x.moment };
-        models = λ told. refl;
+        models = λ told standing. refl;
       }
 
 -- it was carried out

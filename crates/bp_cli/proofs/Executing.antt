@@ -8,8 +8,9 @@ use Rattle.vault_disk.specs.Disk.{Disk, Image}
 use Rattle.vault_disk.proofs.Moments.{started, weaker}
 use Rattle.desk_model.specs.State.{State, durable}
 use Rattle.desk_model.specs.Replay.{Mark, plain, memory, fault, Entry, answer_of}
-use Rattle.site_desk.specs.Desk.{Answered, Moved, reached}
-use Rattle.site_desk.specs.Stands.{stands, Standing, StandsFor, Between}
+use Rattle.vault_ledger.specs.Ledger.{stands}
+use Rattle.desk_index.specs.Answers.{Answered, Moved, reached}
+use Rattle.site_desk.specs.Stands.{Standing, StandsFor, Between}
 use Rattle.bp_cli.specs.Runs.{Outcome, refused, carried, after_outcome, EndsBy, Ends, Acts, Acted}
 
 abbrev pub mark_of : Answer → Mark
@@ -42,17 +43,17 @@ module _ (s : State) (r : Request) (payload : List ℕ) (moment : ℕ) where
   ended _ new d0 d1 standing moved between c left = (standing (λ z. absurd (cc z))).each c left ∙ ap (λ (x : State). Some (durable x)) moved
 
   -- it was carried out
-  pub acted_step : (Why : Outcome → Type 0) (new : State) (d0 d1 : Disk) (a : Answer) → Why (carried (entry_of r payload moment a) a) → (d0.tells → Answered s r payload moment a) → (d0.tells → a ≢ DiskFault → Standing d1 new) → (d0.tells → Moved s r payload moment a new)
-      → (d0.tells → Between s (reached s r payload moment a) d0 d1) → Acted Why s new d0 d1 a
+  pub acted_step : (Why : Outcome → Type 0) (new : State) (d0 d1 : Disk) (a : Answer) → Why (carried (entry_of r payload moment a) a) → (d0.tells → Standing d0 s → Answered s r payload moment a) → (d0.tells → Standing d0 s → a ≢ DiskFault → Standing d1 new)
+      → (d0.tells → Standing d0 s → Moved s r payload moment a new) → (d0.tells → Standing d0 s → Between s (reached s r payload moment a) d0 d1) → Acted Why s new d0 d1 a
   acted_step Why new d0 d1 a why answered standing moved between = record {
     outcome = carried (entry_of r payload moment a) a;
     why = why;
     is = refl;
-    models = λ told. marked a (answered told);
-    moves = λ told ne. moved_after new a ne (moved told);
+    models = λ told standing0. marked a (answered told standing0);
+    moves = λ told standing0 ne. moved_after new a ne (moved told standing0);
     acts = λ told standing0. record {
-      now = ended a new d0 d1 (standing told) (moved told) (between told);
-      during = weaker d0 d1 (λ c b. StandsFor s (reached s r payload moment a) c × (b ≡ d0.sent)) (λ c b. ((stands c ≡ Some (durable s)) ⊎ Ends s (carried (entry_of r payload moment a) a) c) × (b ≡ d0.sent)) (λ c b left. (before_or_after a c left.0, left.1)) (between told).during;
+      now = ended a new d0 d1 (standing told standing0) (moved told standing0) (between told standing0);
+      during = weaker d0 d1 (λ c b. StandsFor s (reached s r payload moment a) c × (b ≡ d0.sent)) (λ c b. ((stands c ≡ Some (durable s)) ⊎ Ends s (carried (entry_of r payload moment a) a) c) × (b ≡ d0.sent)) (λ c b left. (before_or_after a c left.0, left.1)) (between told standing0).during;
     };
   }
 
@@ -68,7 +69,7 @@ acted_refused Why s d a why = record {
   outcome = refused a;
   why = why;
   is = refl;
-  models = λ told. tt;
-  moves = λ told ne. refl;
+  models = λ told standing. tt;
+  moves = λ told standing ne. refl;
   acts = λ told standing. acts_none s d a standing;
 }

@@ -1,14 +1,16 @@
 -- What a stop leaves, from one request to the next.
 use Rattle.std.proofs.Common.{◌≡◌, ◌⊎◌, inl, ⊎_elim, ℕ, List, [], ◌∷◌, ◌++◌, refl, sym, ◌∙◌, ap, subst, append_assoc, arith}
-use Rattle.std.specs.Prelude.{Some, Result, Ok, Err}
+use Rattle.std.specs.Prelude.{Bool, true, false, if◌then◌else◌, option_and_then, Some, None, Result, Ok, Err}
 use Rattle.std.specs.Result.{result_ok}
 use Rattle.std.proofs.lemmas.List.{append-nil}
 use Rattle.site_types.specs.declared.answer.Answer.{Answer}
 use Rattle.vault_disk.specs.Disk.{Disk, Image, During}
 use Rattle.vault_disk.proofs.Moments.{started, goes_on, weaker}
+use Rattle.pool_journal.specs.Stops.{Leaves as JournalLeaves}
 use Rattle.desk_model.specs.State.{State, durable}
 use Rattle.desk_model.specs.Replay.{Mark, plain, memory, fault, Entry, marked_state}
-use Rattle.site_desk.specs.Stands.{opened, stands, Standing, Opens}
+use Rattle.vault_ledger.specs.Ledger.{Ledger, journal_reads, are_true, state_over, state_where, stands}
+use Rattle.site_desk.specs.Stands.{opened, state_by, Standing, Opens}
 use Rattle.site_desk.proofs.Standings.{opens_so}
 use Rattle.bp_cli.specs.Runs.{Outcome, refused, carried, said, after_outcome, state_after, EndsBy, Ends, EndsAfter, replies, IsSent, AreSent, Covered, Leaves, StopsFrom, CoversOne, One, Acts}
 
@@ -97,36 +99,40 @@ module _ (text : Answer → List ℕ) (s state : State) (d0 d d' : Disk) (os : L
 some_same : (a b : State) → Some a ≡ Some b → a ≡ b
 some_same a b e = cc
 
-abbrev standing_for : State → Result State ℕ
-standing_for s = Ok s
+abbrev read_as : State → Result State ℕ
+read_as s = Ok s
 
--- the vault stands for a state
-pub found_at : (r : Result State ℕ) (s : State) → result_ok r ≡ Some s → r ≡ Ok s
-found_at (Ok t) s is = ap standing_for (some_same t s is)
-found_at (Err at) s is = absurd (cc is)
+-- what stands for a state reads as it
+pub found_at : (c : Image) (s : State) → stands c ≡ Some s → opened c ≡ Ok s
+found_at c s = at (journal_reads c)
+  where
+    over : (l : Ledger) (b : Bool) → (if b then Some (state_over c l) else None) ≡ Some s → state_over c l ≡ s
+    over l true is = some_same (state_over c l) s is
+    over l false is = absurd (cc is)
+
+    at : (r : Result Ledger ℕ) → option_and_then (state_where c) (result_ok r) ≡ Some s → state_by c r ≡ Ok s
+    at (Ok l) is = ap read_as (over l (are_true c l l.outline.stored) is)
+    at (Err offset) is = absurd (cc is)
 
 -- nothing was opened
 pub opens_none : (d : Disk) → Opens d d
-opens_none d = inl (record { left = λ c left. left; during = started d (λ c b. d.may_leave c × (b ≡ d.sent)) })
+opens_none d s is = inl (record { left = λ c left. left; during = started d (λ c b. d.may_leave c × (b ≡ d.sent)) })
 
 -- an opening, of a vault that stands for a state when it begins
 module _ (s : State) (d0 d1 : Disk) (standing : Standing d0 s) (reads : d0.may_leave d0.seen) (opens : Opens d0 d1) where
-  pub at_start : (c : Image) → d0.may_leave c ⊎ (stands c ≡ stands d0.seen) → stands c ≡ Some (durable s)
-  at_start c = ⊎_elim (standing.each c) (λ same. same ∙ standing.each d0.seen reads)
+  at_start : (c : Image) → d0.may_leave c ⊎ (stands c ≡ Some (durable s)) → stands c ≡ Some (durable s)
+  at_start c = ⊎_elim (standing.each c) (λ same. same)
 
-  pub state_opened : (state : State) → opened d0.seen ≡ Ok state → state ≡ durable s
-  state_opened state state_is = some_same state (durable s) (sym (ap (λ (r : Result State ℕ). result_ok r) state_is) ∙ standing.each d0.seen reads)
+  leaves_open : JournalLeaves (λ c. d0.may_leave c ⊎ (stands c ≡ Some (durable s))) d0 d1
+  leaves_open = opens_so d0 d1 (durable s) (standing.each d0.seen reads) opens
 
   opening : During d0 d1 (λ c b. (stands c ≡ Some (durable s)) × (b ≡ d0.sent))
-  opening = weaker d0 d1 (λ c b. (d0.may_leave c ⊎ (stands c ≡ stands d0.seen)) × (b ≡ d0.sent)) (λ c b. (stands c ≡ Some (durable s)) × (b ≡ d0.sent)) (λ c b left. (at_start c left.0, left.1)) (opens_so d0 d1 opens).during
-
-  pub stands_opened : (t : State) → t ≡ durable s → Standing d1 t
-  stands_opened t is = record { each = λ c left. at_start c ((opens_so d0 d1 opens).left c left) ∙ ap (λ (x : State). Some (durable x)) (sym is) }
+  opening = weaker d0 d1 (λ c b. (d0.may_leave c ⊎ (stands c ≡ Some (durable s))) × (b ≡ d0.sent)) (λ c b. (stands c ≡ Some (durable s)) × (b ≡ d0.sent)) (λ c b left. (at_start c left.0, left.1)) leaves_open.during
 
   -- it was refused
   pub acts_unopened : (a : Answer) → Acts s d0 d1 (refused a)
   acts_unopened a = record {
-    now = λ c left. at_start c ((opens_so d0 d1 opens).left c left);
+    now = λ c left. at_start c (leaves_open.left c left);
     during = weaker d0 d1 (λ c b. (stands c ≡ Some (durable s)) × (b ≡ d0.sent)) (λ c b. ((stands c ≡ Some (durable s)) ⊎ Ends s (refused a) c) × (b ≡ d0.sent)) (λ c b left. (inl left.0, left.1)) opening;
   }
 
@@ -152,7 +158,7 @@ module _ (s : State) (d0 d1 : Disk) (standing : Standing d0 s) (reads : d0.may_l
 module _ (text : Answer → List ℕ) (s : State) (d0 d2 : Disk) (os : List Outcome) (standing : Standing d0 s) (reads : d0.may_leave d0.seen) (only : (c : Image) (b : List ℕ) → d0.left_since d0.moment c b → d0.may_leave c × (b ≡ d0.sent)) where
   pub stops_so : Leaves text (durable s) d0 d2 os → StopsFrom text (durable s) d0 d2 os
   stops_so leaves = record {
-    found = found_at (opened d0.seen) (durable s) (standing.each d0.seen reads);
+    found = found_at d0.seen (durable s) (standing.each d0.seen reads);
     now = leaves.now;
     pairs = λ c b left. ⊎_elim (λ was. let at = only c b was in covered_none text (durable s) os d0.sent c b (standing.each c at.0) at.1) (λ covered. covered) (leaves.during.each d0.moment c b (omega arith) left);
   }

@@ -10,7 +10,8 @@ use Rattle.vault_disk.specs.Steps.{Rose, SentPart}
 use Rattle.vault_disk.proofs.Moments.{goes_on, weaker}
 use Rattle.desk_model.specs.State.{State, durable}
 use Rattle.desk_model.specs.Replay.{Mark, plain, memory, fault, Entry, marked_answer, marked_state}
-use Rattle.site_desk.specs.Stands.{stands, Standing}
+use Rattle.vault_ledger.specs.Ledger.{stands}
+use Rattle.site_desk.specs.Stands.{Standing}
 use Rattle.bp_cli.specs.Runs.{Outcome, refused, carried, said, after_outcome, IsModels, EndsBy, Ends, IsSent, Acts, Acted, Delivers, Sent, CoversOne, One, RepliesTo}
 use Rattle.bp_cli.proofs.StepLemmas.{unmoved_step}
 
@@ -71,7 +72,7 @@ module _ (text : Answer → List ℕ) (s : State) (d0 d1 d2 : Disk) (status : �
 -- a request was answered, and that was sent
 module _ (Why : Outcome → Type 0) (text : Answer → List ℕ) (s s1 s' : State) (d0 d1 d2 : Disk) (a : Answer) (status : ℕ) (acted : Acted Why s s1 d0 d1 a) (told_on : d0.tells → d1.tells) (sent_is : d1.sent ≡ d0.sent) (counts : d1.send_faults ≡ d0.send_faults) (sent : Sent text a d1 d2 status) (state_is : d0.tells → s' ≡ s1)
     (stable : (o : Outcome) → Why o → NeedsMemory (said o) → Why (forgotten o)) where
-  replied_so : (o : Outcome) → Why o → (d0.tells → IsModels s o) → (d0.tells → said o ≢ DiskFault → s' ≡ after_outcome s o) → (d0.tells → Standing d0 s → Acts s d0 d1 o) → sent.answer ≡ said o → RepliesTo Why text s s' d0 d2 status
+  replied_so : (o : Outcome) → Why o → (d0.tells → Standing d0 s → IsModels s o) → (d0.tells → Standing d0 s → said o ≢ DiskFault → s' ≡ after_outcome s o) → (d0.tells → Standing d0 s → Acts s d0 d1 o) → sent.answer ≡ said o → RepliesTo Why text s s' d0 d2 status
   replied_so o why models moves acts is = record {
     outcome = o;
     why = why;
@@ -92,16 +93,16 @@ module _ (Why : Outcome → Type 0) (text : Answer → List ℕ) (s s1 s' : Stat
       o = acted.outcome
 
       as_said : sent.answer ≡ a → RepliesTo Why text s s' d0 d2 status
-      as_said is = replied_so o acted.why acted.models (λ told ne. state_is told ∙ acted.moves told (λ fault. ne (acted.is ∙ fault))) acted.acts (is ∙ sym acted.is)
+      as_said is = replied_so o acted.why acted.models (λ told standing ne. state_is told ∙ acted.moves told standing (λ fault. ne (acted.is ∙ fault))) acted.acts (is ∙ sym acted.is)
 
       for_memory : (sent.answer ≡ OutOfMemory) × NeedsMemory a → RepliesTo Why text s s' d0 d2 status
       for_memory out =
           let needs : NeedsMemory (said o) = subst NeedsMemory (sym acted.is) out.1 in
-          replied_so (forgotten o) (stable o acted.why needs) (λ told. forgotten_models s o)
-          (λ told ne. state_is told ∙ acted.moves told (ready_fault a out.1) ∙ still s o (acted.models told) needs ∙ sym (forgotten_after s o))
+          replied_so (forgotten o) (stable o acted.why needs) (λ told standing. forgotten_models s o)
+          (λ told standing ne. state_is told ∙ acted.moves told standing (ready_fault a out.1) ∙ still s o (acted.models told standing) needs ∙ sym (forgotten_after s o))
           (λ told standing.
           let acts = acted.acts told standing in
-          let before : (c : Image) → Ends s o c → stands c ≡ Some (durable s) = λ c ends. unmoved s o c (acted.models told) needs ends in
+          let before : (c : Image) → Ends s o c → stands c ≡ Some (durable s) = λ c ends. unmoved s o c (acted.models told standing) needs ends in
           record {
             now = λ c left. forgotten_ends s o c (before c (acts.now c left));
             during = weaker d0 d1 (λ c b. ((stands c ≡ Some (durable s)) ⊎ Ends s o c) × (b ≡ d0.sent)) (λ c b. ((stands c ≡ Some (durable s)) ⊎ Ends s (forgotten o) c) × (b ≡ d0.sent)) (λ c b left. (inl (⊎_elim (λ was. was) (before c) left.0), left.1)) acts.during;

@@ -1,6 +1,6 @@
 -- A whole run, from what was answered and sent.
 use Rattle.std.proofs.Common.{◌≡◌, ◌⊎◌, inl, inr, ⊎_elim, ℕ, ◌≤◌, List, [], ◌∷◌, ◌++◌, refl, sym, ◌∙◌, ap, subst, arith}
-use Rattle.std.specs.Prelude.{Some, Result, Ok}
+use Rattle.std.specs.Prelude.{Some, Ok}
 use Rattle.std.specs.Borrow.{GName}
 use Rattle.std.proofs.lemmas.List.{append-nil}
 use Rattle.site_types.specs.Answers.{number_of, text_of, NeedsMemory}
@@ -13,14 +13,15 @@ use Rattle.vault_disk.specs.Ticks.{Ticks}
 use Rattle.pool_journal.specs.declared.fault.JournalFault.{JournalFault}
 use Rattle.pool_journal.specs.declared.fault.JournalFault.TheVariants as journal
 use Rattle.desk_model.specs.State.{State, durable}
+use Rattle.vault_ledger.specs.Ledger.{stands}
 use Rattle.site_desk.specs.Desk.{IsFaultOf}
-use Rattle.site_desk.specs.Stands.{opened, Standing, Opens}
-use Rattle.bp_cli.specs.Runs.{Outcome, refused, carried, said, AreSent, IfLast, HasRisen, IsStatus, Replied, Leaves, Stops, state_in, refusal_of, Acts, Acted, Delivers, Sent, RepliesTo}
+use Rattle.site_desk.specs.Stands.{opened, state_in, Standing, Opens}
+use Rattle.bp_cli.specs.Runs.{Outcome, refused, carried, said, AreSent, IfLast, HasRisen, IsStatus, Replied, Leaves, Stops, refusal_of, Acts, Acted, Delivers, Sent, RepliesTo}
 use Rattle.bp_cli.specs.Singles.{IsUnopened, IsAnswered, Ran, RanBad}
 use Rattle.bp_cli.specs.Sessions.{framed, Serves, ServesOn, RanSession}
 use Rattle.bp_cli.proofs.Asking.{asked_forgotten, untouched}
 use Rattle.bp_cli.proofs.Executing.{acts_none}
-use Rattle.bp_cli.proofs.Leaving.{leaves_none, leaves_more, stops_so, found_at, acts_unopened, leaves_opened, stands_opened, state_opened}
+use Rattle.bp_cli.proofs.Leaving.{leaves_none, leaves_more, stops_so, found_at, acts_unopened, leaves_opened}
 use Rattle.bp_cli.proofs.Replying.{forgotten, replies_to}
 use Rattle.bp_cli.proofs.Rising.{risen_since}
 
@@ -41,14 +42,11 @@ at_equal P a b here is = subst P (sym is) here
 abbrev pub Lawful : Disk → Type 0
 Lawful d = (d.tells → d.may_leave d.seen) × ((c : Image) (b : List ℕ) → d.tells → d.left_since d.moment c b → d.may_leave c × (b ≡ d.sent))
 
-found_in : (r : Result State ℕ) (s : State) → r ≡ Ok s → state_in r ≡ s
-found_in r s is = ap state_in is
-
 -- one answer was all
 module _ {Why : Outcome → Type 0} (text : Answer → List ℕ) {s' : State} (d0 d2 : Disk) (status : ℕ) (laws : Lawful d0) (r : RepliesTo Why text (state_in (opened d0.seen)) s' d0 d2 status) where
   pub stops_one : Stops text d0 d2 (r.outcome ∷ [])
   stops_one s told standing =
-      let is : state_in (opened d0.seen) ≡ durable s = found_in (opened d0.seen) (durable s) (found_at (opened d0.seen) (durable s) (standing.each d0.seen (laws.0 told))) in
+      let is : state_in (opened d0.seen) ≡ durable s = ap state_in (found_at d0.seen (durable s) (standing.each d0.seen (laws.0 told))) in
       let one = r.one told (record { each = λ c left. standing.each c left ∙ ap (λ (x : State). Some (durable x)) (sym is) }) in
       stops_so text s d0 d2 (r.outcome ∷ []) standing (laws.0 told) (λ c b left. laws.1 c b told left)
       (leaves_more text (durable s) (state_in (opened d0.seen)) d0 d0 d2 [] r.outcome is (sym (append-nil d0.sent)) (leaves_none text (durable s) d0 (record { each = standing.each })) one)
@@ -62,8 +60,8 @@ acted_lent d0 d1 p0 p1 a x = record {
   outcome = x.outcome;
   why = x.why;
   is = x.is;
-  models = x.models;
-  moves = x.moves;
+  models = λ told standing. x.models told (record { each = standing.each });
+  moves = λ told standing. x.moves told (record { each = standing.each });
   acts = λ told standing. let acts = x.acts told (record { each = standing.each }) in record { now = acts.now; during = record { later = acts.during.later; each = acts.during.each } };
 }
 
@@ -104,7 +102,7 @@ module _ (text : Answer → List ℕ) (a : Answer) (d0 d1 d2 : Disk) (input : In
 
   reply : RepliesTo Why text state state d0 d2 status
   reply = replies_to Why text state state state d0 d1 d2 a status
-      (record { outcome = refused a; why = inl refl; is = refl; models = λ told. tt; moves = λ told ne. refl; acts = λ told standing. acts state told standing }) told_on sent_is counts sent (λ told. refl) forgets_all
+      (record { outcome = refused a; why = inl refl; is = refl; models = λ told standing. tt; moves = λ told standing ne. refl; acts = λ told standing. acts state told standing }) told_on sent_is counts sent (λ told. refl) forgets_all
 
   answers : (b : Answer) → (b ≡ a) ⊎ (b ≡ OutOfMemory) → HasRisen d0.faults d2.faults input.faults input.faults ticks.faults ticks.faults b → reply.outcome ≡ refused b → Refuses text a d0 d2 input ticks status
   answers b is rose_b outcome_is = record {
@@ -153,8 +151,9 @@ if_last P Q so (o ∷ []) is = so (said o) is
 if_last P Q so (o ∷ p ∷ os) is = if_last P Q so (p ∷ os) is
 
 -- one whose vault is
-module _ (d0 d1 d2 : Disk) (input input' : Input) (ticks ticks' : Ticks) (status : ℕ) (laws : Lawful d0) (told_on : d0.tells → d1.tells) (sent_is : d1.sent ≡ d0.sent) (counts : d1.send_faults ≡ d0.send_faults) (earlier : d0.faults ≤ d1.faults) (opens : d0.tells → Opens d0 d1) (state : State) (stands_for : d0.tells → opened d0.seen ≡ Ok state) where
-  serves_since : (x : Serves state d1 d2 input input' ticks ticks' status) → Serves state d0 d2 input input' ticks ticks' status
+module _ (d0 d1 d2 : Disk) (input input' : Input) (ticks ticks' : Ticks) (status : ℕ) (laws : Lawful d0) (told_on : d0.tells → d1.tells) (sent_is : d1.sent ≡ d0.sent) (counts : d1.send_faults ≡ d0.send_faults) (earlier : d0.faults ≤ d1.faults) (opens : d0.tells → Opens d0 d1) (state : State) (reads_as : d0.tells → opened d0.seen ≡ Ok state)
+    (stands_on : (t : State) → d0.tells → stands d0.seen ≡ Some t → (state ≡ t) × Standing d1 state) where
+  serves_since : (x : Serves d1 d2 input input' ticks ticks' status) → Serves d0 d2 input input' ticks ticks' status
   serves_since x = record {
     answered = x.answered;
     behind = x.behind;
@@ -163,7 +162,6 @@ module _ (d0 d1 d2 : Disk) (input input' : Input) (ticks ticks' : Ticks) (status
     text = x.text;
     each = x.each;
     moments = x.moments;
-    models = λ told. x.models (told_on told);
     closing_is = x.closing_is;
     goes_on = x.goes_on;
     whole = x.whole;
@@ -177,13 +175,13 @@ module _ (d0 d1 d2 : Disk) (input input' : Input) (ticks ticks' : Ticks) (status
   pub session_served : ServesOn state d1 d2 input input' ticks ticks' status → RanSession d0 d2 input input' ticks ticks' status
   unfolding serves_since
   session_served x = inl (record {
-    opening = record { state = state; stands = stands_for };
+    opening = record { state = state; reads = reads_as };
     serves = serves_since x.serves;
+    models = λ told is. x.models (told_on told) (stands_on state told is).1;
     stops = λ s told standing.
-        let is : state ≡ durable s = state_opened s d0 d1 standing (laws.0 told) (opens told) state (stands_for told) in
+        let stood : (state ≡ durable s) × Standing d1 state = stands_on (durable s) told (standing.each d0.seen (laws.0 told)) in
         let os : List Outcome = x.serves.outcomes ++ x.serves.closing in
-        let stands_on : Standing d1 state = stands_opened s d0 d1 standing (laws.0 told) (opens told) state is in
-        let leaves : Leaves framed (durable s) d1 d2 os = subst (λ (y : State). Leaves framed y d1 d2 os) is (x.leaves (told_on told) stands_on) in
+        let leaves : Leaves framed (durable s) d1 d2 os = subst (λ (y : State). Leaves framed y d1 d2 os) stood.0 (x.leaves (told_on told) stood.1) in
         stops_so framed s d0 d2 os standing (laws.0 told) (λ c b left. laws.1 c b told left) (leaves_opened s d0 d1 standing (laws.0 told) (opens told) framed os d2 sent_is leaves);
   })
 
@@ -203,12 +201,12 @@ session_lent d0 d2 input input' ticks ticks' status p0 p1 = ⊎_elim
         text = y.text;
         each = y.each;
         moments = y.moments;
-        models = y.models;
         closing_is = y.closing_is;
         goes_on = y.goes_on;
         whole = y.whole;
         replied = record { faults = y.replied.faults; status_is = y.replied.status_is; sent = y.replied.sent };
       };
+      models = x.models;
       stops = stops_lent framed d0 d2 p0 p1 (x.serves.outcomes ++ x.serves.closing) x.stops;
     }))
     (λ x. inr (record {

@@ -12,7 +12,8 @@ use Rattle.vault_disk.specs.Ticks.{Ticks, IsSameClock}
 use Rattle.session_text.specs.Turns.{Turn, request, broken, turns}
 use Rattle.desk_model.specs.State.{State, durable}
 use Rattle.desk_model.specs.Replay.{Mark, plain, memory, fault, Entry, marked_state, marked_answer}
-use Rattle.site_desk.specs.Stands.{stands, Standing}
+use Rattle.vault_ledger.specs.Ledger.{stands}
+use Rattle.site_desk.specs.Stands.{Standing}
 use Rattle.bp_cli.specs.Gather.{IsUnasked}
 use Rattle.bp_cli.specs.Runs.{Outcome, refused, carried, said, after_outcome, state_after, IsModels, AreModels, EndsBy, Ends, replies, AreSent, HasRisen, IfLast, IsStatus, Leaves, Sent, RepliesTo}
 use Rattle.bp_cli.specs.Sessions.{framed, is_over, is_last, AllGoOn, GoesOn, ends_broken, IsAnswerTo, Answering, moment_taken, moments_taken, IsClosing, last_number, end_number, ServesOn, IsTaken, IsTurned, last_status}
@@ -168,8 +169,8 @@ pub record Served (s : State) (d0 d : Disk) (input0 input : Input) (held : List 
   pub text : input0.tells → turns input0.left ≡ answered ++ turns (held ++ input.left)
   pub each : Answering answered outcomes
   pub moments : ticks0.tells → ticks.gave ≡ ticks0.gave ++ moments_taken answered outcomes
-  pub models : d0.tells → AreModels s outcomes
-  pub state_is : d0.tells → state ≡ state_after s outcomes
+  pub models : d0.tells → Standing d0 s → AreModels s outcomes
+  pub state_is : d0.tells → Standing d0 s → state ≡ state_after s outcomes
   pub sent : d0.tells → d.sent ≡ d0.sent ++ replies framed outcomes
   pub leaves : d0.tells → Standing d0 s → Leaves framed s d0 d outcomes
   pub standing : d0.tells → Standing d0 s → Standing d state
@@ -184,8 +185,8 @@ served_none s d input held ticks new = record {
   text = λ tells. ap (λ (h : List ℕ). turns (h ++ input.left)) (sym new);
   each = tt;
   moments = λ tells. sym (append-nil ticks.gave);
-  models = λ told. tt;
-  state_is = λ told. refl;
+  models = λ told standing. tt;
+  state_is = λ told standing. refl;
   sent = λ told. sym (append-nil d.sent);
   leaves = λ told standing. leaves_none framed s d standing;
   standing = λ told standing. standing;
@@ -201,7 +202,7 @@ record Ended (s : State) (d0 d : Disk) (input0 input : Input) (ticks0 ticks : Ti
   pub goes_on : GoesOn all
 
 serves_so : {s : State} {d0 d : Disk} {input0 input : Input} {ticks0 ticks : Ticks} {status : ℕ} (ts : List Turn) (behind : List ℕ) (os closing all : List Outcome) → all ≡ os ++ closing → (input0.tells → turns input0.left ≡ ts ++ turns behind) → Answering ts os
-    → (ticks0.tells → ticks.gave ≡ ticks0.gave ++ moments_taken ts os) → (d0.tells → AreModels s os) → IsClosing input0 input behind closing → (status ≡ 0 → input0.tells → (behind ≡ []) × (input.left ≡ [])) → IsStatus (end_number ts os closing) d0 d status
+    → (ticks0.tells → ticks.gave ≡ ticks0.gave ++ moments_taken ts os) → (d0.tells → Standing d0 s → AreModels s os) → IsClosing input0 input behind closing → (status ≡ 0 → input0.tells → (behind ≡ []) × (input.left ≡ [])) → IsStatus (end_number ts os closing) d0 d status
     → Ended s d0 d input0 input ticks0 ticks all status → ServesOn s d0 d input0 input ticks0 ticks status
 serves_so {s} {d0} {d} {input0} {input} {ticks0} {ticks} {status} ts behind os closing all all_is text each moments models closing_is whole number ended =
     let e = subst (λ (l : List Outcome). Ended s d0 d input0 input ticks0 ticks l status) all_is ended in
@@ -214,12 +215,12 @@ serves_so {s} {d0} {d} {input0} {input} {ticks0} {ticks} {status} ts behind os c
         text = text;
         each = each;
         moments = moments;
-        models = models;
         closing_is = closing_is;
         goes_on = e.goes_on;
         whole = whole;
         replied = record { faults = e.faults; status_is = number; sent = e.sent };
       };
+      models = models;
       leaves = e.leaves;
     }
 
@@ -242,14 +243,14 @@ module _ {s : State} {d0 d : Disk} {input0 input : Input} {held : List ℕ} {tic
     status_so : IsStatus (number_of (said r.outcome)) d0 d' status
     status_so = ⊎_elim (λ number. inl number) (λ unsent. inr (unsent.0, rose_since d0.send_faults d.send_faults d'.send_faults later.send_faults unsent.1)) r.status_is
 
-    models_so : d0.tells → AreModels s (served.outcomes ++ r.outcome ∷ [])
-    models_so told = models_push s served.outcomes r.outcome (served.models told) (subst (λ (x : State). IsModels x r.outcome) (served.state_is told) (r.models (later.tells told)))
+    models_so : d0.tells → Standing d0 s → AreModels s (served.outcomes ++ r.outcome ∷ [])
+    models_so told standing = models_push s served.outcomes r.outcome (served.models told standing) (subst (λ (x : State). IsModels x r.outcome) (served.state_is told standing) (r.models (later.tells told) (served.standing told standing)))
 
     ended_so : (input' : Input) (ticks' : Ticks) → HasRisen d.faults d'.faults input.faults input'.faults ticks.faults ticks'.faults (said r.outcome) → Ended s d0 d' input0 input' ticks0 ticks' (served.outcomes ++ r.outcome ∷ []) status
     ended_so input' ticks' rose = record {
       faults = last_if (HasRisen d0.faults d'.faults input0.faults input'.faults ticks0.faults ticks'.faults) served.outcomes r.outcome (risen_since (said r.outcome) d0.faults d.faults d'.faults input0.faults input.faults input'.faults ticks0.faults ticks.faults ticks'.faults later.faults same_input.faults same_clock.faults rose);
       sent = λ told. sent_push framed served.outcomes r.outcome d0.sent d.sent d'.sent status (served.sent told) (r.sent (later.tells told));
-      leaves = λ told standing. leaves_more framed s state d0 d d' served.outcomes r.outcome (served.state_is told) (served.sent told) (served.leaves told standing) (r.one (later.tells told) (served.standing told standing));
+      leaves = λ told standing. leaves_more framed s state d0 d d' served.outcomes r.outcome (served.state_is told standing) (served.sent told) (served.leaves told standing) (r.one (later.tells told) (served.standing told standing));
       goes_on = but_last served.outcomes r.outcome served.going;
     }
 
@@ -301,13 +302,13 @@ module _ {s : State} {d0 d : Disk} {input0 input : Input} {held : List ℕ} {tic
         each = each_so;
         moments = moments_so;
         models = models_so r;
-        state_is = λ told. r.moves (later.tells told) (fault_ends (said r.outcome) number_on) ∙ ap (λ (x : State). after_outcome x r.outcome) (served.state_is told) ∙ sym (state_push s served.outcomes r.outcome);
+        state_is = λ told standing. r.moves (later.tells told) (served.standing told standing) (fault_ends (said r.outcome) number_on) ∙ ap (λ (x : State). after_outcome x r.outcome) (served.state_is told standing) ∙ sym (state_push s served.outcomes r.outcome);
         sent = λ told. (r.sent (later.tells told)).whole (on_sent status on) ∙ ap (λ (l : List ℕ). l ++ framed (said r.outcome)) (served.sent told) ∙ append_assoc d0.sent (replies framed served.outcomes) (framed (said r.outcome)) ∙ ap (λ (l : List ℕ). d0.sent ++ l) (sym (replies_push framed served.outcomes r.outcome));
         leaves = (ended_so r input' ticks' rose).leaves;
         standing = λ told standing. record {
           each = λ c left.
-              stood state r.outcome c (fault_ends (said r.outcome) number_on) (r.models (later.tells told)) ((r.one (later.tells told) (served.standing told standing)).now c left)
-              ∙ ap (λ (x : State). Some (durable x)) (sym (r.moves (later.tells told) (fault_ends (said r.outcome) number_on)));
+              stood state r.outcome c (fault_ends (said r.outcome) number_on) (r.models (later.tells told) (served.standing told standing)) ((r.one (later.tells told) (served.standing told standing)).now c left)
+              ∙ ap (λ (x : State). Some (durable x)) (sym (r.moves (later.tells told) (served.standing told standing) (fault_ends (said r.outcome) number_on)));
         };
         unbroken = ends_request served.answered words payload;
         going = going_push served.outcomes r.outcome served.going number_on;

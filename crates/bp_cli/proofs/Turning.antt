@@ -11,7 +11,7 @@ use Rattle.vault_disk.specs.Disk.{Disk, IsSame}
 use Rattle.vault_disk.specs.Steps.{IsSameBut, Rose}
 use Rattle.vault_disk.specs.Ticks.{Ticks}
 use Rattle.desk_model.specs.State.{State}
-use Rattle.site_desk.specs.Desk.{IsOfRequest}
+use Rattle.desk_index.specs.Answers.{IsOfRequest}
 use Rattle.bp_cli.specs.Gather.{IsNamed, IsMoment, IsUntimed}
 use Rattle.bp_cli.specs.Words.{is_moment, moment_of, at_moment, without_moment, timed_request}
 use Rattle.bp_cli.specs.Runs.{Outcome, refused, carried, said, Acted, Sent, RepliesTo}

@@ -1,5 +1,5 @@
 -- What came of requests: what was carried out and answered, what was sent, and what a stop leaves. A single request and a session share all of this.
-use Rattle.std.specs.Prelude.{◌≡◌, ◌≢◌, ◌⊎◌, ℕ, List, [], ◌∷◌, ◌++◌, Some, Result, Ok, Err}
+use Rattle.std.specs.Prelude.{◌≡◌, ◌≢◌, ◌⊎◌, ℕ, List, [], ◌∷◌, ◌++◌, Some, Ok}
 use Rattle.site_types.specs.Answers.{number_of, NeedsMemory}
 use Rattle.site_types.specs.declared.answer.Answer.{Answer}
 use Rattle.site_types.specs.declared.answer.Answer.TheVariants.{OutOfMemory, DiskFault, ReadFault, ClockFault, NotAVault}
@@ -9,9 +9,10 @@ use Rattle.vault_disk.specs.Input.{Input}
 use Rattle.vault_disk.specs.Ticks.{Ticks}
 use Rattle.pool_journal.specs.declared.fault.JournalFault.{JournalFault}
 use Rattle.pool_journal.specs.declared.fault.JournalFault.TheVariants as journal
-use Rattle.desk_model.specs.State.{State, initial, durable}
+use Rattle.desk_model.specs.State.{State, durable}
 use Rattle.desk_model.specs.Replay.{Mark, plain, memory, fault, Entry, stepped, answer_of, after}
-use Rattle.site_desk.specs.Stands.{opened, stands, Standing, StandsFor}
+use Rattle.vault_ledger.specs.Ledger.{stands}
+use Rattle.site_desk.specs.Stands.{opened, Standing, StandsFor}
 
 -- nothing was carried out, or one request with its payload at a moment; and this was answered
 pub data Outcome : Type 0 where
@@ -120,15 +121,10 @@ pub record Replied (text : Answer → List ℕ) (os : List Outcome) (number : �
   pub status_is : IsStatus number disk disk' status
   pub sent : disk.tells → AreSent text os disk.sent disk'.sent status
 
--- the vault is open: where it tells what it holds, it stands for this state
+-- the vault is open: where it tells what it holds, it reads as this state
 pub record Opening (tells : Type 0) (seen : Image) : Type 0 where
   pub state : State
-  pub stands : tells → opened seen ≡ Ok state
-
--- the state that a vault stands for; where it stands for none, that of a new one
-abbrev pub state_in : Result State ℕ → State
-state_in (Ok s) = s
-state_in (Err at) = initial
+  pub reads : tells → opened seen ≡ Ok state
 
 -- what is answered where the vault can't be opened
 abbrev pub refusal_of : JournalFault → Answer
@@ -141,13 +137,13 @@ pub record Acts (s : State) (disk disk' : Disk) (o : Outcome) : Type 0 where
   pub now : (c : Image) → disk'.may_leave c → Ends s o c
   pub during : During disk disk' (λ c b. ((stands c ≡ Some (durable s)) ⊎ Ends s o c) × (b ≡ disk.sent))
 
--- A desk with this state answered a request, has that state afterwards, and sent nothing yet; and this is so of what came of it.
+-- A desk with this state answered a request, has that state afterwards, and sent nothing yet; and this is so of what came of it. On a vault that stands for the state the answer is the model's.
 pub record Acted (Why : Outcome → Type 0) (s s' : State) (disk disk' : Disk) (a : Answer) : Type 0 where
   pub outcome : Outcome
   pub why : Why outcome
   pub is : said outcome ≡ a
-  pub models : disk.tells → IsModels s outcome
-  pub moves : disk.tells → a ≢ DiskFault → s' ≡ after_outcome s outcome
+  pub models : disk.tells → Standing disk s → IsModels s outcome
+  pub moves : disk.tells → Standing disk s → a ≢ DiskFault → s' ≡ after_outcome s outcome
   pub acts : disk.tells → Standing disk s → Acts s disk disk' outcome
 
 -- a text was sent, and reads of the vault give the same
@@ -175,8 +171,8 @@ pub record One (text : Answer → List ℕ) (s : State) (disk disk' : Disk) (o :
 pub record RepliesTo (Why : Outcome → Type 0) (text : Answer → List ℕ) (s s' : State) (disk disk' : Disk) (status : ℕ) : Type 0 where
   pub outcome : Outcome
   pub why : Why outcome
-  pub models : disk.tells → IsModels s outcome
-  pub moves : disk.tells → said outcome ≢ DiskFault → s' ≡ after_outcome s outcome
+  pub models : disk.tells → Standing disk s → IsModels s outcome
+  pub moves : disk.tells → Standing disk s → said outcome ≢ DiskFault → s' ≡ after_outcome s outcome
   pub status_is : IsStatus (number_of (said outcome)) disk disk' status
   pub sent : disk.tells → IsSent (text (said outcome)) disk.sent disk'.sent status
   pub one : disk.tells → Standing disk s → One text s disk disk' outcome

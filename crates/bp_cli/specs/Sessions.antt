@@ -1,5 +1,5 @@
 -- A session: each request of its text is answered in turn, with a framed reply. What is said of the vault, the source and the clock is said of those that tell; all else holds over any.
-use Rattle.std.specs.Prelude.{◌≡◌, ◌⊎◌, ℕ, Bool, true, false, ◌||◌, ◌==◌, if◌then◌else◌, List, [], ◌∷◌, ◌++◌, length, None, Result, Ok, Err}
+use Rattle.std.specs.Prelude.{◌≡◌, ◌⊎◌, ℕ, Bool, true, false, ◌||◌, ◌==◌, if◌then◌else◌, List, [], ◌∷◌, ◌++◌, length, Some, None, Result, Ok, Err}
 use Rattle.std.specs.Fmt.{decimal}
 use Rattle.site_types.specs.Answers.{number_of, text_of}
 use Rattle.site_types.specs.Requests.{takes_payload}
@@ -12,6 +12,7 @@ use Rattle.vault_disk.specs.Ticks.{Ticks}
 use Rattle.session_text.specs.Turns.{Turn, request, broken, whole_turn, turns}
 use Rattle.desk_model.specs.State.{State}
 use Rattle.desk_model.specs.Replay.{Entry}
+use Rattle.vault_ledger.specs.Ledger.{stands}
 use Rattle.site_desk.specs.Stands.{Standing}
 use Rattle.bp_cli.specs.Words.{is_moment, timed_request}
 use Rattle.bp_cli.specs.Gather.{IsNamed, IsUnasked, IsUntouched}
@@ -124,9 +125,9 @@ abbrev pub end_number : List Turn → List Outcome → List Outcome → ℕ
 end_number ts os (o ∷ closing) = last_number (o ∷ closing)
 end_number ts os [] = if ends_broken ts || is_over (last_number os) then last_number os else 0
 
--- What came of a session on an open vault, from this state: the turns that were answered, their outcomes, and what closed it. No answer but the last is a fault's, and with the status 0
--- the text was read to its end and all its turns were answered.
-pub record Serves (s : State) (disk disk' : Disk) (input input' : Input) (ticks ticks' : Ticks) (status : ℕ) : Type 0 where
+-- What came of a session on an open vault: the turns that were answered, their outcomes, and what closed it. No answer but the last is a fault's, and with the status 0 the text was read
+-- to its end and all its turns were answered.
+pub record Serves (disk disk' : Disk) (input input' : Input) (ticks ticks' : Ticks) (status : ℕ) : Type 0 where
   pub answered : List Turn
   pub behind : List ℕ
   pub outcomes : List Outcome
@@ -134,21 +135,22 @@ pub record Serves (s : State) (disk disk' : Disk) (input input' : Input) (ticks 
   pub text : input.tells → turns input.left ≡ answered ++ turns behind
   pub each : Answering answered outcomes
   pub moments : ticks.tells → ticks'.gave ≡ ticks.gave ++ moments_taken answered outcomes
-  pub models : disk.tells → AreModels s outcomes
   pub closing_is : IsClosing input input' behind closing
   pub goes_on : GoesOn (outcomes ++ closing)
   pub whole : status ≡ 0 → input.tells → (behind ≡ []) × (input'.left ≡ [])
   pub replied : Replied framed (outcomes ++ closing) (end_number answered outcomes closing) disk disk' input input' ticks ticks' status
 
--- a session on an open desk with this state
+-- a session on an open desk with this state: where the vault stands for it, each answer is the model's
 pub record ServesOn (s : State) (disk disk' : Disk) (input input' : Input) (ticks ticks' : Ticks) (status : ℕ) : Type 0 where
-  pub serves : Serves s disk disk' input input' ticks ticks' status
+  pub serves : Serves disk disk' input input' ticks ticks' status
+  pub models : disk.tells → Standing disk s → AreModels s serves.outcomes
   pub leaves : disk.tells → Standing disk s → Leaves framed s disk disk' (serves.outcomes ++ serves.closing)
 
--- a session whose vault was opened
+-- a session whose vault was opened: where that stands for the state that it reads as, each answer is the model's
 pub record ServesVault (disk disk' : Disk) (input input' : Input) (ticks ticks' : Ticks) (status : ℕ) : Type 0 where
   pub opening : Opening disk.tells disk.seen
-  pub serves : Serves opening.state disk disk' input input' ticks ticks' status
+  pub serves : Serves disk disk' input input' ticks ticks' status
+  pub models : disk.tells → stands disk.seen ≡ Some opening.state → AreModels opening.state serves.outcomes
   pub stops : Stops framed disk disk' (serves.outcomes ++ serves.closing)
 
 -- one whose vault wasn't: one answer is sent, nothing is read, and the clock isn't asked

@@ -1,5 +1,5 @@
 -- A single request: what was asked, and why it is answered so. What is said of the vault, the source and the clock is said of those that tell; all else holds over any.
-use Rattle.std.specs.Prelude.{◌≡◌, ◌⊎◌, ℕ, ◌≤◌, true, List, [], ◌∷◌, length, Ok, Err}
+use Rattle.std.specs.Prelude.{◌≡◌, ◌⊎◌, ℕ, ◌≤◌, true, List, [], ◌∷◌, length, Some, Ok, Err}
 use Rattle.site_types.specs.Answers.{number_of, text_of}
 use Rattle.site_types.specs.Limits.{payload_limit}
 use Rattle.site_types.specs.Requests.{takes_payload}
@@ -10,7 +10,8 @@ use Rattle.vault_disk.specs.Steps.{Rests}
 use Rattle.vault_disk.specs.Input.{Input}
 use Rattle.vault_disk.specs.Ticks.{Ticks}
 use Rattle.desk_model.specs.Replay.{Entry}
-use Rattle.site_desk.specs.Desk.{IsOfRequest}
+use Rattle.vault_ledger.specs.Ledger.{stands}
+use Rattle.desk_index.specs.Answers.{IsOfRequest}
 use Rattle.site_desk.specs.Stands.{opened}
 use Rattle.bp_cli.specs.Words.{timed_request}
 use Rattle.bp_cli.specs.Gather.{IsUnread, IsUnasked, IsUntouched, IsGiven, IsMoment, IsUngathered}
@@ -44,19 +45,19 @@ pub record AsksPayload (words : List (List ℕ)) : Type 0 where
   pub asks : Asks words
   pub takes : takes_payload asks.asked.request ≡ true
 
--- an opening is refused: the vault is none, with the offset at which its journal stands for no state, or for want of memory or by a fault of the disk
+-- an opening is refused: the vault is none, with the offset at which its journal makes no state, or for want of memory or by a fault of the disk
 abbrev pub IsUnopened : Type 0 → Image → Answer → Type 0
 IsUnopened tells seen OutOfMemory = Unit {0}
 IsUnopened tells seen DiskFault = Unit {0}
 IsUnopened tells seen (NotAVault offset) = tells → opened seen ≡ Err offset
 IsUnopened tells seen _ = ⊥
 
--- the words ask for a request, the vault is open, and the answer is the model's
+-- the words ask for a request, and the vault is open; where it stands for the state that it reads as, the answer is the model's
 pub record IsHeard (words : List (List ℕ)) (tells : Type 0) (seen : Image) (input input' : Input) (ticks ticks' : Ticks) (o : Outcome) : Type 0 where
   pub asks : Asks words
   pub opening : Opening tells seen
   pub executed : IsExecuted asks.asked input input' ticks ticks' o
-  pub models : tells → IsModels opening.state o
+  pub models : tells → stands seen ≡ Some opening.state → IsModels opening.state o
 
 -- Why the words are answered so. Behind bad words and a refused opening nothing is read, and the clock isn't asked. It isn't asked either where no memory was left, and then the source
 -- was read for a request alone that takes a payload.

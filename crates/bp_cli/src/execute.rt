@@ -3,9 +3,9 @@ ghost use Rattle.std.specs.Prelude.{◌≡◌, false};
 ghost use Rattle.site_types.specs.Lines.{IsFormed};
 ghost use Rattle.vault_disk.specs.Disk.{IsSame};
 ghost use Rattle.desk_model.specs.State.{State};
-ghost use Rattle.site_desk.specs.Stands.{opened};
+ghost use Rattle.site_desk.specs.Stands.{opened, state_in};
 ghost use Rattle.bp_cli.specs.Gather.{IsLimited};
-ghost use Rattle.bp_cli.specs.Runs.{refusal_of, said, state_in, Acted, HasRisen};
+ghost use Rattle.bp_cli.specs.Runs.{refusal_of, said, Acted, HasRisen};
 ghost use Rattle.bp_cli.specs.Singles.{IsAnswered, IsExecuted};
 
 use crate::gather::{Inputs, gather};

@@ -6,7 +6,7 @@ ghost use Rattle.vault_disk.specs.Disk.{Image, IsLater};
 ghost use Rattle.vault_disk.specs.Steps.{IsSameBut};
 ghost use Rattle.desk_model.specs.State.{State};
 ghost use Rattle.desk_model.specs.Sound.{Sound, KeepsCopies};
-ghost use Rattle.site_desk.specs.Stands.{stands};
+ghost use Rattle.vault_ledger.specs.Ledger.{stands};
 ghost use Rattle.bp_cli.specs.Words.{is_session, names_session};
 ghost use Rattle.bp_cli.specs.Runs.{refusal_of, Delivers, IsStatus, Sent};
 ghost use Rattle.bp_cli.specs.Singles.{Ran, RanBad};
@@ -143,9 +143,9 @@ fn is_session_word(word: &[u8]) -> bool
 /// `session` alone, reads requests from the source, answers one after another with framed replies, and ends with 0 where the source was
 /// read to its end. Where a send failed the status is 20.
 ///
-/// What is sent are the model's answers, and each has its cause, over any machine. Wherever the machine stops, the disk stands for the
-/// state after the first of the requests, all those of whose replies a byte was sent among them; and whatever state a disk stands
-/// for is sound, and each copy kept in it restores the bytes of its image.
+/// Each answer has its cause, over any machine. Over a vault that stands for a state what is sent are the model's answers, from that
+/// state on. Wherever the machine stops, the disk stands for the state after the first of the requests, all those of whose replies a
+/// byte was sent among them; and whatever state a disk stands for is sound, and each copy kept in it restores the bytes of its image.
 pub fn run<M: Machine, S: Source, C: Clock>(
     alloc: Global,
     words: &[Text],

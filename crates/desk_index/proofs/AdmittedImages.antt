@@ -1,12 +1,13 @@
 -- An image that an index takes in.
-use Rattle.std.proofs.Common.{◌≡◌, List, [], Bool, true, false, Some, None, refl, sym, ◌∙◌, ap, subst}
+use Rattle.std.proofs.Common.{◌≡◌, ℕ, List, [], Bool, true, false, Some, None, refl, sym, ◌∙◌, ap, subst}
 use Rattle.std.specs.Prelude.{Option, is_some}
 use Rattle.std.proofs.lemmas.Bool.{false≢true}
 use Rattle.site_types.specs.declared.image.ImageRecord.{ImageRecord}
 use Rattle.pool_journal.specs.declared.entry.Entry.TheVariants as entry
 use Rattle.pool_journal.specs.declared.entry.WholeImage.{WholeImage}
 use Rattle.pool_journal.specs.declared.segments.Segments.{Segments}
-use Rattle.policy_book.specs.Changes.{client_sealed}
+use Rattle.policy_book.specs.Book.{Book}
+use Rattle.policy_book.specs.Changes.{client_sealed, last_known}
 use Rattle.image_catalogue.specs.Images.{record_named, with_record}
 use Rattle.desk_model.specs.declared.site.Site.{Site}
 use Rattle.desk_model.specs.State.{Image, entries}
@@ -49,3 +50,11 @@ pub backup_taken : (l : Ledger) (w : WholeImage) (segments : Segments) (old midd
 backup_taken l w segments old middle new taken of same is good admitted =
     let so : IsTaken l w segments middle.storage true = subst (IsTaken l w segments middle.storage) good is in
     (with_backup w segments l, so.0, admitted_index l w segments old middle new of same admitted (subst (Follows (with_backup w segments l)) (sym admitted.storage) so.1))
+
+-- a site whose book noted an image of a client, and then took that back, is the site before
+pub site_back : (old before : Site) (after : Book) (name client : List ℕ) (time : ℕ) (last : Option ℕ) → ((book : Book) (noted : ℕ) → old.book ≡ client_sealed name noted book → last ≡ last_known name book → after ≡ book)
+    → name ≡ client → old ≡ record before { book = client_sealed client time before.book } → last ≡ last_known client before.book → record old { book = after } ≡ before
+site_back old before after name client time last back same was known =
+    let sealed : old.book ≡ client_sealed name time before.book = ap (λ (s : Site). s.book) was ∙ ap (λ (n : List ℕ). client_sealed n time before.book) (sym same) in
+    let last_is : last ≡ last_known name before.book = known ∙ ap (λ (n : List ℕ). last_known n before.book) (sym same) in
+    λ j. record (was j) { book = back before.book time sealed last_is j }

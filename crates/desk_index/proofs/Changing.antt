@@ -12,6 +12,7 @@ use Rattle.site_types.specs.declared.answer.Answer.TheVariants.{Done}
 use Rattle.site_types.specs.declared.request.Request.{Request}
 use Rattle.vault_disk.specs.Disk.{Image as DiskImage}
 use Rattle.pool_journal.specs.Entries.{IsStaged}
+use Rattle.pool_journal.specs.declared.entry.Entry.TheVariants as entry
 use Rattle.desk_model.specs.State.{State}
 use Rattle.desk_model.specs.Refusals.{first_refusal, unless_refused, step_of}
 use Rattle.desk_model.specs.Settings.{is_setting, setting_refusals, set_by, setting_step}
@@ -21,7 +22,7 @@ use Rattle.vault_ledger.specs.Ledger.{Ledger, state_over, with_outline}
 use Rattle.vault_ledger.specs.Wellformed.{IsLedger}
 use Rattle.vault_ledger.proofs.LedgerStates.{refused_over, set_over_both}
 use Rattle.desk_index.specs.Answers.{IsStepRefusal}
-use Rattle.desk_index.specs.Changes.{IsReady, IsRefusedOver, settings_record}
+use Rattle.desk_index.specs.Changes.{IsReady, IsRefusedOver}
 use Rattle.desk_index.specs.Index.{IsIndexOf}
 use Rattle.desk_index.specs.declared.index.Index.{Index}
 use Rattle.desk_index.proofs.Deciding.{class_change}
@@ -56,7 +57,7 @@ module _ (l : Ledger) (request : Request) (payload : List ℕ) (moment : ℕ) (s
   refused_here a is c = refused_as (state_over c l) request payload moment a (setting_plain request l.outline a is).1 (step_over c (Some a) is)
 
   -- or it is ready to be recorded
-  pub ready_here : IsLedger l → IsFormed request → first_refusal (setting_refusals request l.outline) ≡ None → (staged body : List ℕ) (new : Index) → IsStaged (settings_record (line_of request ∷ [])) staged → body ≡ [] → IsIndexOf (with_outline l (set_by request l.outline)) new → IsReady l request payload moment staged body new
+  pub ready_here : IsLedger l → IsFormed request → first_refusal (setting_refusals request l.outline) ≡ None → (staged body : List ℕ) (new : Index) → IsStaged (entry.Settings (line_of request ∷ [])) staged → body ≡ [] → IsIndexOf (with_outline l (set_by request l.outline)) new → IsReady l request payload moment staged body new
   ready_here order formed none staged body new staged_is body_is of = record {
     lines = line_of request ∷ [];
     staged_is = staged_is;

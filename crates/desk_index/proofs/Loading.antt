@@ -15,6 +15,7 @@ use Rattle.site_types.specs.declared.request.Request.{Request}
 use Rattle.site_types.specs.declared.request.Request.TheVariants.{Load}
 use Rattle.vault_disk.specs.Disk.{Image as DiskImage}
 use Rattle.pool_journal.specs.Entries.{IsStaged}
+use Rattle.pool_journal.specs.declared.entry.Entry.TheVariants as entry
 use Rattle.policy_book.specs.SiteFile.{site_requests}
 use Rattle.desk_model.specs.declared.site.Site.{Site}
 use Rattle.desk_model.specs.State.{State}
@@ -35,7 +36,7 @@ use Rattle.vault_ledger.proofs.FollowedSettings.{have_before, set_to}
 use Rattle.vault_ledger.proofs.KeptSettings.{set_kept}
 use Rattle.vault_ledger.proofs.LedgerStates.{refused_over, set_over_both}
 use Rattle.desk_index.specs.Answers.{IsRefusalOf, IsStepRefusal}
-use Rattle.desk_index.specs.Changes.{AreOfFile, AreRefused, AreSet, IsReady, IsRefusedOver, settings_record}
+use Rattle.desk_index.specs.Changes.{AreOfFile, AreRefused, AreSet, IsReady, IsRefusedOver}
 use Rattle.desk_index.specs.Index.{IsIndexOf, IsSet}
 use Rattle.desk_index.specs.declared.index.Index.{Index}
 use Rattle.desk_index.specs.declared.ready.Ready.{Ready}
@@ -185,7 +186,7 @@ module _ (load : Request) (file : class_of load ≡ site_file) (payload : List �
       refused_load : (a : Answer) → IsStepRefusal a → all_set requests l.outline ≡ Err a → IsRefusedOver l load payload moment a
       refused_load a plain refused c = refused_as (state_over c l) load payload moment a plain.1 (loads c (Err a) refused)
 
-      pub ready_load : AllPass is_setting requests → (new : Index) (result : Result Ready Answer) → IfOk result (λ r. IsStaged (settings_record (map line_of requests)) r.staged) → IfOk result (λ r. r.body ≡ count_text requests)
+      pub ready_load : AllPass is_setting requests → (new : Index) (result : Result Ready Answer) → IfOk result (λ r. IsStaged (entry.Settings (map line_of requests)) r.staged) → IfOk result (λ r. r.body ≡ count_text requests)
           → IfOk result (λ _. AreSet l (all_set requests l.outline) new None) → IfOk result (λ r. IsReady l load payload moment r.staged r.body new)
       ready_load settings new (Ok r) staged_is body_is set = record {
         lines = map line_of requests;

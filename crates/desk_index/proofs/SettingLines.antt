@@ -1,7 +1,7 @@
 -- The lines of a settings record fit into it: those of requests are short, and there are few.
-use Rattle.std.proofs.Common.{◌≡◌, ◌+◌, ◌*◌, ◌<◌, ◌≤◌, ℕ, zero, suc, List, [], ◌∷◌, ◌++◌, length, map, refl, ap, arith, length-append}
+use Rattle.std.proofs.Common.{◌≡◌, ◌+◌, ◌*◌, ◌<◌, ◌≤◌, ℕ, zero, suc, List, [], ◌∷◌, length, map, arith, length-append}
 use Rattle.std.specs.List.{All}
-use Rattle.std.proofs.lemmas.List.{append-nil, length-map}
+use Rattle.std.proofs.lemmas.List.{length-map}
 use Rattle.std.proofs.lemmas.List.Elements.{All-nil, All-cons}
 use Rattle.site_types.specs.Lines.{IsFormed, line_of}
 use Rattle.site_types.specs.declared.request.Request.{Request}
@@ -28,13 +28,12 @@ all_short (request ∷ requests) formed =
     (omega (arith, here), all_short requests (λ k d lt. formed (suc k) d (omega (arith, lt))))
 
 -- the record of so many requests can be written
-pub writable : (requests : List Request) → All IsFormed requests → length requests ≤ 288017 → IsWritable (record { entry = entry.Settings (map line_of requests); bytes = [] })
+pub writable : (requests : List Request) → All IsFormed requests → length requests ≤ 288017 → IsWritable (entry.Settings (map line_of requests))
 writable requests formed few =
     let lines = map line_of requests in
-    let body : length (strings lines ++ []) ≡ length (strings lines) = ap length (append-nil (strings lines)) in
     let long = strings_short requests formed in
     let count : length lines ≡ length requests = length-map requests line_of in
-    (omega (arith, body, long, few), ((omega (arith, count, few), all_short requests formed), refl))
+    (omega (arith, long, few), (omega (arith, count, few), all_short requests formed))
 
-pub one_writable : (request : Request) → IsFormed request → IsWritable (record { entry = entry.Settings (line_of request ∷ []); bytes = [] })
+pub one_writable : (request : Request) → IsFormed request → IsWritable (entry.Settings (line_of request ∷ []))
 one_writable request formed = writable (request ∷ []) (All-cons IsFormed request [] formed (All-nil IsFormed)) (omega arith)

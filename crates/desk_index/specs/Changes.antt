@@ -1,10 +1,10 @@
 -- What is made ready before a change of the site is recorded.
-use Rattle.std.specs.Prelude.{◌≡◌, ◌⊎◌, ℕ, List, [], Option, Some, None, Result, Ok, Err}
+use Rattle.std.specs.Prelude.{◌≡◌, ◌⊎◌, ℕ, List, Option, Some, None, Result, Ok, Err}
 use Rattle.site_types.specs.declared.answer.Answer.{Answer}
 use Rattle.site_types.specs.declared.answer.Answer.TheVariants.{Done, OutOfMemory}
 use Rattle.site_types.specs.declared.request.Request.{Request}
 use Rattle.vault_disk.specs.Disk.{Image as DiskImage}
-use Rattle.pool_journal.specs.Entries.{Record, IsStaged}
+use Rattle.pool_journal.specs.Entries.{IsStaged}
 use Rattle.pool_journal.specs.declared.entry.Entry.TheVariants as entry
 use Rattle.policy_book.specs.SiteFile.{site_requests}
 use Rattle.desk_model.specs.State.{State}
@@ -28,14 +28,10 @@ AreRefused result answer = (answer ≡ OutOfMemory) ⊎ (result ≡ Err answer)
 abbrev pub AreOfFile : List Request → Type 0
 AreOfFile requests = (payload : List ℕ) × (site_requests payload ≡ Some requests)
 
--- the record of settings with these lines
-abbrev pub settings_record : List (List ℕ) → Record
-settings_record lines = record { entry = entry.Settings lines; bytes = [] }
-
 -- a record of settings is ready that takes a ledger to that of the index, and the state over any pools as the step does
 pub record IsReady (l : Ledger) (request : Request) (payload : List ℕ) (moment : ℕ) (staged body : List ℕ) (index : Index) : Type 0 where
   pub lines : List (List ℕ)
-  pub staged_is : IsStaged (settings_record lines) staged
+  pub staged_is : IsStaged (entry.Settings lines) staged
   pub outline : State
   pub settled_is : settled l.outline lines ≡ Some outline
   pub index_is : IsIndexOf (with_outline l outline) index

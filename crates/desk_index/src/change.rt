@@ -2,10 +2,11 @@
 ghost use Rattle.std.specs.Prelude.{◌≡◌, ℕ, List, [], ◌∷◌, true, IfOk, IfErr, OnErr};
 ghost use Rattle.site_types.specs.Lines.{IsFormed, line_of};
 ghost use Rattle.pool_journal.specs.Entries.{IsStaged};
+ghost use Rattle.pool_journal.specs.declared.entry.Entry.TheVariants as entry;
 ghost use Rattle.desk_model.specs.Settings.{is_setting};
 ghost use Rattle.vault_ledger.specs.Ledger.{Ledger};
 ghost use Rattle.desk_index.specs.Answers.{IsStepRefusal};
-ghost use Rattle.desk_index.specs.Changes.{IsReady, IsRefusedOver, settings_record};
+ghost use Rattle.desk_index.specs.Changes.{IsReady, IsRefusedOver};
 ghost use Rattle.desk_index.specs.Index.{IsIndexOf, SameLists};
 
 use crate::index::Index;
@@ -17,7 +18,7 @@ use std::alloc::Global;
 
 fn stage_request(alloc: Global, request: &Request) -> Result<Staged, NoMemory>
     requires { IsFormed request.now }
-    ensures { IfOk result (IsStaged (settings_record (line_of request.now ∷ []))) }
+    ensures { IfOk result (IsStaged (entry.Settings (line_of request.now ∷ []))) }
 {
     let mut lines = Vec::new(alloc);
     lines.push(line_of(alloc, request)?)?;

@@ -23,9 +23,13 @@ pub struct Index {
 impl Index {
     ghost use Rattle.std.specs.Prelude.{true, IfOk};
     ghost use Rattle.site_types.specs.Lines.{IsFormed};
+    ghost use Rattle.site_types.specs.declared.image.ImageRecord.{ImageRecord as Record};
+    ghost use Rattle.policy_book.specs.Changes.{client_unsealed, last_known};
+    ghost use Rattle.image_catalogue.specs.Images.{without_record};
     ghost use Rattle.desk_model.specs.Settings.{is_setting};
     ghost use Rattle.vault_ledger.specs.Ledger.{Ledger};
     ghost use Rattle.desk_index.specs.Index.{IsIndexOf, IsSet, SameLists};
+    ghost use Rattle.desk_index.specs.declared.index.Index.{Index as Value};
 
     /// Carries out a request that changes the site, or answers why it is refused. A refusal leaves all as it was. Without memory
     /// the index is that of the same ledger, with the same site and catalogue.
@@ -61,6 +65,23 @@ impl Index {
     {
         let id = image.id.copy(alloc)?;
         add_image(alloc, &mut self.site.book, &mut self.catalogue, image, &id)
+    }
+
+    /// Takes back an image that was admitted, with what was known of its client's time before. It takes no memory.
+    pub fn expel(&mut self, id: &BackupId, last: Option<u64>)
+        ensures site { self.new.site ≡ record self.old.site { book = client_unsealed id.now.client last self.old.site.book } }
+        ensures catalogue { self.new.catalogue ≡ without_record id.now self.old.catalogue }
+        ensures storage { self.new.storage ≡ self.old.storage }
+        ensures back { (before : Value) (image : Record)
+            → id.now ≡ image.id
+            → record_named image.id before.catalogue ≡ None
+            → self.old.site ≡ record before.site { book = client_sealed image.id.client image.id.time before.site.book }
+            → self.old.catalogue ≡ with_record image before.catalogue
+            → last ≡ last_known image.id.client before.site.book
+            → (self.new.site ≡ before.site) × (self.new.catalogue ≡ before.catalogue) }
+    {
+        self.catalogue.remove_image(id);
+        self.site.book.unseal_client(&id.client, last);
     }
 }
 

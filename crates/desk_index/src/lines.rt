@@ -1,5 +1,5 @@
 // The lines of settings records.
-ghost use Rattle.std.specs.Prelude.{◌≡◌, [], IfOk};
+ghost use Rattle.std.specs.Prelude.{◌≡◌, IfOk};
 ghost use Rattle.site_types.specs.Lines.{line_of};
 ghost use Rattle.pool_journal.specs.Entries.{IsWritable, IsStaged};
 
@@ -19,11 +19,11 @@ pub fn line_of(alloc: Global, request: &Request) -> Result<Text, NoMemory>
 /// Takes all memory of a settings record with these lines. Those of one request fit into a record, and so do those of a site file
 /// of which nothing is refused.
 pub fn stage_lines(alloc: Global, lines: Vec<Text>) -> Result<Staged, NoMemory>
-    requires { IsWritable (record { entry = Entry.Settings lines.items; bytes = [] }) }
-    ensures { IfOk result (IsStaged (record { entry = Entry.Settings lines.items; bytes = [] })) }
+    requires { IsWritable (Entry.Settings lines.items) }
+    ensures { IfOk result (IsStaged (Entry.Settings lines.items)) }
 {
     let entry = Entry::Settings {
         lines: ListOf::from_vec(lines),
     };
-    Journal::stage(alloc, &entry, &[])
+    Journal::stage(alloc, &entry)
 }

@@ -5,12 +5,13 @@ ghost use Rattle.site_types.specs.Classes.{class_of, site_file};
 ghost use Rattle.site_types.specs.Limits.{last_moment};
 ghost use Rattle.site_types.specs.Lines.{IsFormed, line_of};
 ghost use Rattle.pool_journal.specs.Entries.{IsWritable, IsStaged};
+ghost use Rattle.pool_journal.specs.declared.entry.Entry.TheVariants as entry;
 ghost use Rattle.desk_model.specs.Settings.{all_set, count_text, is_setting};
 ghost use Rattle.vault_ledger.specs.Ledger.{Ledger};
 ghost use Rattle.vault_ledger.specs.Storage.{HavePools};
 ghost use Rattle.vault_ledger.specs.Wellformed.{IsLedger};
 ghost use Rattle.desk_index.specs.Answers.{IsRefusalOf, IsStepRefusal};
-ghost use Rattle.desk_index.specs.Changes.{AreOfFile, AreRefused, AreSet, IsReady, IsRefusedOver, settings_record};
+ghost use Rattle.desk_index.specs.Changes.{AreOfFile, AreRefused, AreSet, IsReady, IsRefusedOver};
 ghost use Rattle.desk_index.specs.Index.{IsIndexOf, SameLists};
 
 use crate::index::Index;
@@ -46,8 +47,8 @@ fn count_text(alloc: Global, requests: &[Request]) -> Result<Text, NoMemory>
 }
 
 fn stage_requests(alloc: Global, requests: &[Request]) -> Result<Ready, NoMemory>
-    requires { IsWritable (settings_record (map line_of requests.now)) }
-    ensures staged { IfOk result (λ r. IsStaged (settings_record (map line_of requests.now)) r.staged) }
+    requires { IsWritable (entry.Settings (map line_of requests.now)) }
+    ensures staged { IfOk result (λ r. IsStaged (entry.Settings (map line_of requests.now)) r.staged) }
     ensures body { IfOk result (λ r. r.body ≡ count_text requests.now) }
 {
     Ok(Ready {
@@ -97,7 +98,7 @@ fn set_all(alloc: Global, index: &mut Index, requests: &[Request]) -> Result<Rea
     requires formed { All IsFormed requests.now }
     requires known { (l : Ledger) × IsIndexOf l index.old }
     ensures set { (l : Ledger) → IsIndexOf l index.old → IfOk result (λ _. AreSet l (all_set requests.now l.outline) index.new None) }
-    ensures staged { IfOk result (λ r. IsStaged (settings_record (map line_of requests.now)) r.staged) }
+    ensures staged { IfOk result (λ r. IsStaged (entry.Settings (map line_of requests.now)) r.staged) }
     ensures body { IfOk result (λ r. r.body ≡ count_text requests.now) }
     ensures refused { (l : Ledger) → IsIndexOf l index.old → IfErr result (AreRefused (all_set requests.now l.outline)) }
     ensures plain { IfErr result IsStepRefusal }

@@ -150,7 +150,7 @@ fn replay_record(alloc: Global, index: &mut Index, placed: &Placed) -> Result<bo
     match &placed.entry {
         Entry::Settings { lines } => settle_lines(alloc, index, lines.as_slice()),
         Entry::BackupSealed { image, segments } => take_backup(alloc, index, image, segments),
-        Entry::CopySealed { .. } | Entry::WholeImage(_) => Ok(false),
+        Entry::CopySealed { .. } => Ok(false),
     }
 }
 

@@ -2,9 +2,9 @@
 pub use Rattle.std.proofs.Common.{Bool, List, [], ap, arith, codes, drop, false, get_or, length, max, min, refl, rules, subst, suc, sym, take, true, zero, ℕ, ⊎_elim, ◌++◌, ◌+◌, ◌-◌, ◌<◌, ◌∙◌, ◌∷◌, ◌≡◌, ◌≢◌, ◌≤◌}
 pub use Rattle.std.specs.Prelude.{Contains, Err, None, Ok, Option, Result, Some, cond, find, fold, if◌then◌else◌, is_none, is_some, map, nat_le, nat_lt, not, option_map, replicate, slice_get, unwrap_or, ◌&&◌, ◌==◌, ◌||◌}
 pub use Rattle.std.proofs.lemmas.Bool.{and_parts, false≢true, not-false, not_from_true, or_from, or_parts}
-pub use Rattle.desk_model.specs.Sound.{HasSet, HasSource, IsBase, IsNumberOf, IsSoundBook, IsSoundCopy, IsSoundImage, IsSoundLifecycle, IsSoundPolicy, IsSoundSet, IsSoundUnit, KeepsCopies, Sound, given_back, has_version, operations_kept, stored_on}
+pub use Rattle.desk_model.specs.Sound.{HasSet, HasSource, IsBase, IsNumberOf, IsSoundBook, IsSoundCopy, IsSoundImage, IsSoundLifecycle, IsSoundPolicy, IsSoundSet, IsSoundUnit, KeepsCopies, Sound, given_back, has_version, operations_kept}
 pub use Rattle.std.specs.Str.{bytes_eq, is_utf8}
-pub use Rattle.desk_model.specs.State.{Image, Job, State, Stored, entries, has_image, image_named, initial, with_image, with_stored}
+pub use Rattle.desk_model.specs.State.{Image, Job, State, Stored, entries, has_image, image_named, initial, stored_on, with_image, with_stored}
 pub use Rattle.std.proofs.lemmas.Bool.Decides.{nat_tests}
 pub use Rattle.std.proofs.lemmas.List.{get_or-map, get_or_default, length-map, length-set, length-take, length_push}
 pub use Rattle.std.proofs.lemmas.Slice.Eq.{bytes_eq-Decides}

@@ -1,5 +1,5 @@
 -- Rows of the table of requests, worked out on the definitions: both sides of each equation compute to one value.
-use Rattle.desk_model.proofs.Common.{◌≡◌, ℕ, List, refl, [], ◌∷◌, codes, false, Option, Some, None, replicate, unwrap_or, Answer, BackupId, Request, State, disk0, first_refusal, initial, load_of, step}
+use Rattle.desk_model.proofs.Common.{◌≡◌, ℕ, List, refl, [], ◌∷◌, ◌++◌, codes, false, Option, Some, None, replicate, unwrap_or, Answer, BackupId, Request, State, disk0, first_refusal, initial, load_of, step}
 use Rattle.desk_model.specs.Backups.{content_refusals}
 use Rattle.std.specs.Fmt.{digits}
 use Rattle.std.specs.Result.{result_ok}
@@ -104,6 +104,55 @@ one_piece_more = refl
 -- before there is no room for them
 pieces_before_room : refused_for 16777219 ≡ Some (TooMany (codes "pieces") 1048577 1048576)
 pieces_before_room = refl
+
+-- a state with so many slots on its unit
+abbrev slotted : State → ℕ → State
+slotted s slots = after s (request.UnitChange (codes "disk0") None (Some slots) None None)
+
+abbrev one_slot : State
+one_slot = slotted initial 1
+
+abbrev slot_taken : State
+slot_taken = (step one_slot backup (codes "hello") 1000).1
+
+as_many_slots : (step one_slot backup (codes "hello") 1000).0 ≡ Done (codes "alpha_1000\n")
+unfolding digits
+as_many_slots = refl
+
+one_slot_more : (step slot_taken backup (codes "world") 1000).0 ≡ TooMany (codes "segments") 2 1
+one_slot_more = refl
+
+-- what is stored there takes no slot
+same_again : (step slot_taken backup (codes "hello") 1000).0 ≡ Done (codes "alpha_1001\n")
+unfolding digits
+same_again = refl
+
+-- where more are stored than there are slots since, so does nothing that is stored, and each other piece is one too many
+abbrev less_slots : State
+less_slots = slotted (step (slotted backed_up 2) backup (codes "world") 1000).1 1
+
+stored_before : (step less_slots backup (codes "world") 1000).0 ≡ Done (codes "alpha_1002\n")
+unfolding digits
+stored_before = refl
+
+beyond_stored : (step less_slots backup (codes "again") 1000).0 ≡ TooMany (codes "segments") 3 1
+beyond_stored = refl
+
+-- a unit of one slot with segments of 16 bytes
+abbrev small_segments : State
+small_segments = record initial { site = record (initial.site) { book = record (initial.site.book) { units = record disk0 { segment = 16; slots = 1 } ∷ [] } } }
+
+two_segments : (step small_segments backup (replicate 16 120 ++ replicate 16 121) 1000).0 ≡ TooMany (codes "segments") 2 1
+two_segments = refl
+
+-- two equal pieces take one slot
+twice_one_segment : (step small_segments backup (replicate 16 120 ++ replicate 16 120) 1000).0 ≡ Done (codes "alpha_1000\n")
+unfolding digits
+twice_one_segment = refl
+
+-- that there is no room on it comes first
+room_before_slots : (step (slotted (holding 40 None) 1) backup (replicate 61 1) 1000).0 ≡ UnitFull (codes "disk0") 40 61 100
+room_before_slots = refl
 
 -- a site file whose second request repeats its first leaves the state as it was
 repeated : load_of (Some (request.ClientAdd (codes "a") ∷ request.ClientAdd (codes "a") ∷ [])) initial ≡ (Exists (codes "a"), initial)

@@ -1,5 +1,5 @@
 -- Each step keeps a state sound.
-use Rattle.desk_model.proofs.Common.{rules, ◌≡◌, ◌≤◌, ◌<◌, ◌∙◌, ℕ, zero, suc, Bool, true, false, List, [], ◌∷◌, length, refl, sym, ap, subst, arith, Option, Some, None, Result, Ok, Err, is_some, unwrap_or, not, ◌&&◌, nat_le, nat_lt, fold, Contains, option_map_or, is_utf8, false≢true, nat_tests, last_moment, Answer, BackupId, Request, has, Policy, Book, policy_name, client_limit, adhoc, manual, last_of, State, initial, entries, Image, Job, has_image, Case, first_refusal, unless_refused, step_of, Asked, asked_of, image_limit, takes_all, is_known, last_time, later_job, latest_version, policy_asked, schedule_asked, backup_refusals, backup_case, base_of, image_asked, setting_refusals, set_by, zone_set, all_set, state_of, file_requests, file_case, case_of, step, Sound, IsBase, has_version, piece_limit}
+use Rattle.desk_model.proofs.Common.{rules, ◌≡◌, ◌≤◌, ◌<◌, ◌∙◌, ℕ, zero, suc, Bool, true, false, List, [], ◌∷◌, ◌++◌, length, refl, sym, ap, subst, arith, Option, Some, None, Result, Ok, Err, is_some, unwrap_or, not, ◌&&◌, if◌then◌else◌, nat_le, nat_lt, fold, Contains, option_map_or, is_utf8, false≢true, nat_tests, last_moment, Answer, BackupId, Request, has, Policy, Book, policy_name, client_limit, adhoc, manual, last_of, State, initial, entries, Image, Job, has_image, Case, first_refusal, unless_refused, step_of, Asked, asked_of, image_limit, takes_all, is_known, last_time, later_job, latest_version, policy_asked, schedule_asked, backup_refusals, backup_case, base_of, image_asked, setting_refusals, set_by, zone_set, all_set, state_of, file_requests, file_case, case_of, step, Sound, IsBase, has_version}
 use Rattle.std.specs.Result.{result_ok}
 use Rattle.site_types.specs.Classes.{RequestClass, site_change, site_file, backup, restore, restore_at, class_of}
 use Rattle.site_types.specs.Requests.{read_words}
@@ -12,7 +12,7 @@ use Rattle.policy_book.specs.Requests.{schedule_of}
 use Rattle.policy_book.specs.SiteFile.{Line, change_in, change_read, changes_site, requests_of, site_requests}
 use Rattle.site_types.specs.declared.image.ImageRecord.{ImageRecord}
 use Rattle.restore_engine.proofs.ReferenceLemmas.{referenced}
-use Rattle.desk_model.specs.Backups.{backup_shown, reference_of}
+use Rattle.desk_model.specs.Backups.{backup_content, backup_shown, pieces_held_asked, pieces_needed_asked, reference_of, segment_refusals, unit_asked}
 use Rattle.desk_model.proofs.NamedLemmas.{found_named}
 use Rattle.desk_model.proofs.Passing.{all_passed, there_is}
 use Rattle.desk_model.proofs.ImageLists.{has_one, of_entries}
@@ -117,6 +117,15 @@ file_asks payload r among = at (file_requests payload) refl among
 
 -- Backups.
 
+-- of refusals of which none holds the first part has none that does
+none_before : (before behind : List (Bool × Answer)) → first_refusal (before ++ behind) ≡ None → first_refusal before ≡ None
+none_before [] behind none = refl
+none_before (r ∷ before) behind none = at r.0 (none_before before behind) none
+  where
+    at : (b : Bool) → (first_refusal (before ++ behind) ≡ None → first_refusal before ≡ None) → (if b then Some r.1 else first_refusal (before ++ behind)) ≡ None → (if b then Some r.1 else first_refusal before) ≡ None
+    at true later some = some
+    at false later rest = later rest
+
 client_room : (takes there : Bool) (count : ℕ) → (not takes && not there) ≡ false → (takes && not there && nat_le client_limit count) ≡ false → there ≡ false → (takes ≡ true) × (count < client_limit)
 client_room takes true count p q unknown = absurd (false≢true (sym unknown))
 client_room true false count p q unknown = (refl, grind (arith, nat_tests, q))
@@ -165,15 +174,16 @@ module _ (s : State) (sound : Sound s) (asked : Asked) (payload : List ℕ) (mom
           let low : image.entry.id.time ≤ last_of asked.client book = subst (λ (id : BackupId). id.time ≤ last_of id.client book) one.2 (sound.images one.0 one.1).last in
           absurd (omega (arith, low, last_is))
 
-  pub backup_fits : moment ≤ last_moment → first_refusal (backup_refusals asked moment s) ≡ None → first_refusal (backup_shown asked payload moment s) ≡ None → Fits s image.entry moment
-  backup_fits early none none_shown =
+  -- what its unit's slots refuse isn't looked at
+  pub content_fits : moment ≤ last_moment → first_refusal (backup_refusals asked moment s) ≡ None → first_refusal (backup_content asked payload moment s) ≡ None → Fits s image.entry moment
+  content_fits early none none_content =
       let passed = all_passed (backup_refusals asked moment s) none in
       let one = there_is (policy_asked asked s) passed.1.0 in
       let found = found_named policy_name asked.policy book.policies one.0 one.1 in
       let policy_is : policy ≡ one.0 = ap (λ (o : Option Policy). unwrap_or o adhoc) one.1 in
       let full : nat_le image_limit (length s.images) ≡ false = passed.0 in
       let late : nat_lt last_moment image.entry.id.time ≡ false = passed.1.1.1.1.1.1.1.1.1.0 in
-      let many = (all_passed (backup_shown asked payload moment s) none_shown).1.0 in
+      let many = (all_passed (backup_content asked payload moment s) none_content).1.0 in
       record {
         room = grind (arith, nat_tests, full);
         fresh = new_one;
@@ -187,6 +197,9 @@ module _ (s : State) (sound : Sound s) (asked : Asked) (payload : List ℕ) (mom
         completed = early;
         few = grind (arith, nat_tests, many);
       }
+
+  pub backup_fits : moment ≤ last_moment → first_refusal (backup_refusals asked moment s) ≡ None → first_refusal (backup_shown asked payload moment s) ≡ None → Fits s image.entry moment
+  backup_fits early none none_shown = content_fits early none (none_before (backup_content asked payload moment s) (segment_refusals (unit_asked asked s) (pieces_held_asked asked s) (pieces_needed_asked asked payload moment s)) none_shown)
 
   pub backup_sound : moment ≤ last_moment → first_refusal (backup_refusals asked moment s) ≡ None → first_refusal (backup_shown asked payload moment s) ≡ None → Sound (backup_case asked payload moment s).after
   backup_sound early none none_shown = seal_sound s sound image.entry.id policy.name schedule.name schedule.kind image.entry.base policy.lifecycle (latest_version policy.lifecycle book) moment image.bytes (backup_fits early none none_shown)

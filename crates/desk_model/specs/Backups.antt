@@ -35,8 +35,8 @@ use Rattle.image_kinds.specs.Images.{made}
 use Rattle.image_kinds.specs.Reading.{stream_in}
 use Rattle.image_catalogue.specs.Images.{used}
 use Rattle.restore_engine.specs.Chains.{reference}
-use Rattle.desk_model.specs.Pieces.{piece_count, piece_limit, pieces}
-use Rattle.desk_model.specs.State.{State, Image, Job, backup, duplication, restore, entries, with_image, with_stored}
+use Rattle.desk_model.specs.Pieces.{piece_count, piece_limit, pieces, with_pieces}
+use Rattle.desk_model.specs.State.{State, Image, Job, backup, duplication, restore, entries, stored_on, with_image, with_stored}
 use Rattle.desk_model.specs.Refusals.{Case}
 
 -- how many images may be kept
@@ -199,12 +199,18 @@ room_refusals asked policy schedule unit held moment s =
 abbrev pub stream_break : Policy → List ℕ → Option ℕ
 stream_break policy payload = if policy.files then result_err (stream_in payload) else None
 
--- and those that the payload's bytes show: they are no stream, or what is sealed has more pieces than a copy may have, or there is no room for it on the unit
+-- and those of what is sealed: the payload is no stream, or it has more pieces than a copy may have, or there is no room for it on the unit
 abbrev pub content_refusals : Option ℕ → StorageUnit → ℕ → ℕ → List (Bool × Answer)
 content_refusals offset unit held size =
     (is_some offset, BadStream (unwrap_or offset 0))
     ∷ (nat_lt piece_limit (piece_count unit.segment size), TooMany (codes "pieces") (piece_count unit.segment size) piece_limit)
     ∷ (nat_lt unit.capacity (held + size), UnitFull unit.name held size unit.capacity)
+    ∷ []
+
+-- a backup needs more slots than its unit has, and one of its pieces isn't stored there yet
+abbrev pub segment_refusals : StorageUnit → (before after : List (List ℕ)) → List (Bool × Answer)
+segment_refusals unit before after =
+    (nat_lt (length before) (length after) && nat_lt unit.slots (length after), TooMany (codes "segments") (max unit.slots (length before) + 1) unit.slots)
     ∷ []
 
 abbrev pub policy_asked : Asked → State → Option Policy
@@ -229,8 +235,20 @@ backup_refusals asked moment s =
 abbrev pub image_asked : Asked → List ℕ → ℕ → State → Image
 image_asked asked payload moment s = backup_image asked.client (unwrap_or (policy_asked asked s) adhoc) (unwrap_or (schedule_asked asked s) manual) payload moment s
 
+-- the pieces that are stored on its unit, and those that are with what is sealed
+abbrev pub pieces_held_asked : Asked → State → List (List ℕ)
+pieces_held_asked asked s = stored_on (unit_asked asked s).name s.stored
+
+abbrev pub pieces_needed_asked : Asked → List ℕ → ℕ → State → List (List ℕ)
+pieces_needed_asked asked payload moment s = with_pieces (pieces_held_asked asked s) (pieces (unit_asked asked s).segment (image_asked asked payload moment s).bytes)
+
+-- the refusals of what is sealed, for which no stored piece is looked at
+abbrev pub backup_content : Asked → List ℕ → ℕ → State → List (Bool × Answer)
+backup_content asked payload moment s = content_refusals (stream_break (unwrap_or (policy_asked asked s) adhoc) payload) (unit_asked asked s) (held_asked asked s) (length (image_asked asked payload moment s).bytes)
+
+-- all of them that come once the payload is read, in their order
 abbrev pub backup_shown : Asked → List ℕ → ℕ → State → List (Bool × Answer)
-backup_shown asked payload moment s = content_refusals (stream_break (unwrap_or (policy_asked asked s) adhoc) payload) (unit_asked asked s) (held_asked asked s) (length (image_asked asked payload moment s).bytes)
+backup_shown asked payload moment s = backup_content asked payload moment s ++ segment_refusals (unit_asked asked s) (pieces_held_asked asked s) (pieces_needed_asked asked payload moment s)
 
 abbrev pub backup_done : Asked → List ℕ → ℕ → State → Answer × State
 backup_done asked payload moment s =

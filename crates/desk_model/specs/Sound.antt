@@ -1,7 +1,6 @@
 -- What holds of every state of the desk, and what an administrator may rely on by it: each kept copy restores the bytes of its image.
-use Rattle.std.specs.Prelude.{◌≡◌, ◌≢◌, ◌≤◌, ◌<◌, ◌+◌, ◌-◌, ℕ, Bool, true, false, nat_lt, is_some, if◌then◌else◌, List, [], ◌∷◌, length, map, codes, Option, Some, None, option_map, slice_get, Contains}
+use Rattle.std.specs.Prelude.{◌≡◌, ◌≢◌, ◌≤◌, ◌<◌, ◌+◌, ◌-◌, ℕ, Bool, true, false, nat_lt, is_some, if◌then◌else◌, List, [], length, map, codes, Option, Some, None, option_map, slice_get, Contains}
 use Rattle.std.specs.List.{AllPairs}
-use Rattle.std.specs.Str.{bytes_eq}
 use Rattle.site_types.specs.Forms.{capacity_key, segment_key, fragment_key, slots_key, high_key}
 use Rattle.site_types.specs.Keys.{Key}
 use Rattle.site_types.specs.Limits.{last_moment, payload_limit}
@@ -28,7 +27,7 @@ use Rattle.policy_book.specs.Book.{Policy, Book, unit_name, policy_name, client_
 use Rattle.policy_book.specs.Changes.{has_lifecycle, is_full, last_of}
 use Rattle.image_catalogue.specs.Images.{AreById}
 use Rattle.desk_model.specs.Pieces.{piece_count, piece_limit, pieces}
-use Rattle.desk_model.specs.State.{State, Image, Stored, entries}
+use Rattle.desk_model.specs.State.{State, Image, Stored, entries, stored_on}
 use Rattle.desk_model.specs.Backups.{image_limit, is_known, operations_in, unit_at}
 use Rattle.desk_model.specs.Restores.{has_copy}
 use Rattle.desk_model.specs.Step.{step}
@@ -97,11 +96,6 @@ pub record IsSoundSet (book : Book) (set : Stored) : Type 0 where
   pub unit : has unit_name set.unit book.units ≡ true
   pub distinct : AllPairs (λ (a b : List ℕ). a ≢ b) set.pieces
   pub sized : (piece : List ℕ) → Contains set.pieces piece → (1 ≤ length piece) × (length piece ≤ (unit_at set.unit book).segment)
-
--- the pieces that are stored on a unit
-abbrev pub stored_on : List ℕ → List Stored → List (List ℕ)
-stored_on unit [] = []
-stored_on unit (set ∷ sets) = if bytes_eq set.unit unit then set.pieces else stored_on unit sets
 
 -- the set at the number of a unit is the unit's own
 abbrev pub HasSet : List Stored → StorageUnit → Type 0

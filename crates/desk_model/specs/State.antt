@@ -62,3 +62,8 @@ image_named id images = find (λ i. same_id i.entry.id id) images
 abbrev pub with_stored : List ℕ → List (List ℕ) → List Stored → List Stored
 with_stored unit more [] = []
 with_stored unit more (s ∷ sets) = if bytes_eq s.unit unit then record { unit = s.unit; pieces = with_pieces s.pieces more } ∷ sets else s ∷ with_stored unit more sets
+
+-- the pieces that are stored on a unit
+abbrev pub stored_on : List ℕ → List Stored → List (List ℕ)
+stored_on unit [] = []
+stored_on unit (set ∷ sets) = if bytes_eq set.unit unit then set.pieces else stored_on unit sets

@@ -13,11 +13,11 @@ use Rattle.image_kinds.specs.declared.entry.Item.TheVariants.{Taken, Kept}
 use Rattle.image_kinds.specs.Streams.{spelled_content, spelled_image, spelled_item, spelled_path, spelled_stream}
 use Rattle.std.specs.Int.{to_be_bytes, w64}
 use Rattle.image_catalogue.specs.Images.{used}
-use Rattle.desk_model.specs.Backups.{backup_shown, backup_unit, content_refusals, image_asked, sealed_bytes, stream_break, unit_at}
+use Rattle.desk_model.specs.Backups.{backup_content, backup_unit, content_refusals, image_asked, sealed_bytes, stream_break, unit_at}
 use Rattle.desk_model.specs.Pieces.{piece_count, piece_limit}
 use Rattle.desk_model.proofs.NamedLemmas.{found_named}
 use Rattle.desk_model.proofs.Passing.{all_passed, there_is}
-use Rattle.desk_rules.specs.Contents.{base_in, base_time, policy_in, policy_of, shown_under}
+use Rattle.desk_rules.specs.Contents.{base_in, base_time, content_under, policy_in, policy_of}
 
 -- The policy of a backup that nothing refuses.
 
@@ -47,8 +47,8 @@ base_back : (o : Option ℕ) → base_time (base_of o) ≡ o
 base_back None = refl
 base_back (Some time) = refl
 
-abbrev shown_with : List ℕ → Policy → List ℕ → Site → List ImageRecord → List (Bool × Answer)
-shown_with payload policy bytes here images =
+abbrev content_with : List ℕ → Policy → List ℕ → Site → List ImageRecord → List (Bool × Answer)
+content_with payload policy bytes here images =
     let unit = unit_at (backup_unit policy here.book) here.book in
     content_refusals (stream_break policy payload) unit (used unit.name images) (length bytes)
 
@@ -63,18 +63,18 @@ copy_refusals unit held size =
     ∷ (nat_lt unit.capacity (held + size), UnitFull unit.name held size unit.capacity)
     ∷ []
 
-pub shown_parts : (site : Site) (records : List ImageRecord) (name payload : List ℕ) (base : Base) (policy : Policy) (unit : StorageUnit) (held : ℕ) (bytes : List ℕ)
+pub content_parts : (site : Site) (records : List ImageRecord) (name payload : List ℕ) (base : Base) (policy : Policy) (unit : StorageUnit) (held : ℕ) (bytes : List ℕ)
     → Some policy ≡ named policy_name name site.book.policies
     → unit ≡ unit_at (backup_unit policy site.book) site.book
     → held ≡ used unit.name records
     → bytes ≡ sealed_bytes policy (base_time base) payload
-    → shown_under (policy_of name site.book) base payload site records ≡ break_refusals policy payload ++ copy_refusals unit held (length bytes)
-shown_parts site records name payload base policy unit held bytes found unit_is held_is bytes_are =
-    ap (λ (o : Option Policy). shown_under (unwrap_or o adhoc) base payload site records) (sym found)
+    → content_under (policy_of name site.book) base payload site records ≡ break_refusals policy payload ++ copy_refusals unit held (length bytes)
+content_parts site records name payload base policy unit held bytes found unit_is held_is bytes_are =
+    ap (λ (o : Option Policy). content_under (unwrap_or o adhoc) base payload site records) (sym found)
     ∙ (λ j. break_refusals policy payload ++ copy_refusals (sym unit_is j) (used (sym unit_is j).name records) (length (sym bytes_are j)))
     ∙ ap (λ (n : ℕ). break_refusals policy payload ++ copy_refusals unit n (length bytes)) (sym held_is)
 
--- what its payload shows under the policy and with the base of its body
+-- what refuses its content under the policy and with the base of its body
 module _ (site : Site) (records : List ImageRecord) (body : JobBody) (payload : List ℕ) (s : State) (asked : Asked) (size moment : ℕ) (state : IsStateOf site records s) (none : first_refusal (backup_refusals asked moment s) ≡ None) (body_is : body ≡ backup_body asked size moment s) where
   abbrev under : Policy
   under = policy_of (policy_in body) site.book
@@ -88,8 +88,8 @@ module _ (site : Site) (records : List ImageRecord) (body : JobBody) (payload : 
   pub bytes_same : sealed_bytes under (base_time (base_in body)) payload ≡ (image_asked asked payload moment s).bytes
   bytes_same = λ j. sealed_bytes (policy_same j) (time_same j) payload
 
-  pub shown_same : shown_under under (base_in body) payload site records ≡ backup_shown asked payload moment s
-  shown_same = λ j. shown_with payload (policy_same j) (bytes_same j) (sym state.site_is j) (sym state.images_are j)
+  pub content_same : content_under under (base_in body) payload site records ≡ backup_content asked payload moment s
+  content_same = λ j. content_with payload (policy_same j) (bytes_same j) (sym state.site_is j) (sym state.images_are j)
 
 -- a refusal of the rules, or its answer
 pub shown_by : {A : Type 0} (refusals : List (Bool × Answer)) (r : Refusal) (answer : Answer) → r ≡ Answered answer → Passes {A = A} refusals (Err r) → (answer ≡ OutOfMemory) ⊎ (first_refusal refusals ≡ Some answer)

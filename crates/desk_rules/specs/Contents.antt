@@ -39,8 +39,8 @@ abbrev pub IsShown : {A : Type 0} → List (Bool × Answer) → Result A Answer 
 IsShown refusals (Ok value) = first_refusal refusals ≡ None
 IsShown refusals (Err answer) = (answer ≡ OutOfMemory) ⊎ (first_refusal refusals ≡ Some answer)
 
--- what the bytes of a payload show under a policy and with a base
-abbrev pub shown_under : Policy → Base → List ℕ → Site → List ImageRecord → List (Bool × Answer)
-shown_under policy base payload site images =
+-- what refuses the content of a backup under a policy and with a base
+abbrev pub content_under : Policy → Base → List ℕ → Site → List ImageRecord → List (Bool × Answer)
+content_under policy base payload site images =
     let unit = unit_at (backup_unit policy site.book) site.book in
     content_refusals (stream_break policy payload) unit (used unit.name images) (length (sealed_bytes policy (base_time base) payload))

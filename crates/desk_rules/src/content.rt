@@ -6,11 +6,11 @@ ghost use Rattle.policy_book.specs.Book.{policy_name};
 ghost use Rattle.policy_book.specs.Lists.{has};
 ghost use Rattle.image_kinds.specs.Reading.{stream_in};
 ghost use Rattle.image_kinds.specs.Streams.{spelled_stream};
-ghost use Rattle.desk_model.specs.Backups.{Asked, backup_refusals, backup_shown, image_asked, sealed_bytes, stream_break};
+ghost use Rattle.desk_model.specs.Backups.{Asked, backup_content, backup_refusals, image_asked, sealed_bytes, stream_break};
 ghost use Rattle.desk_model.specs.Pieces.{piece_count, piece_limit};
 ghost use Rattle.desk_model.specs.Refusals.{first_refusal};
 ghost use Rattle.desk_model.specs.State.{State};
-ghost use Rattle.desk_rules.specs.Contents.{IsShown, base_time, content_bytes, policy_in, policy_of, shown_under};
+ghost use Rattle.desk_rules.specs.Contents.{IsShown, base_time, content_bytes, content_under, policy_in, policy_of};
 ghost use Rattle.desk_rules.specs.Decisions.{IsStateOf, backup_body};
 ghost use Rattle.desk_rules.specs.Refusing.{Passes};
 
@@ -46,7 +46,7 @@ impl Content<'_> {
 }
 
 /// What a backup seals that the rules allow, or why its payload is refused: under a policy of files it is no stream, or what is
-/// sealed has more pieces than a copy may have, or there is no room for it on the unit. The body is that of the decision, under a policy of the site.
+/// sealed has more pieces than a copy may have, or there is no room for it on the unit. The unit's slots aren't looked at. The body is that of the decision, under a policy of the site.
 pub fn seal_content<'a>(
     alloc: Global,
     site: &Site,
@@ -55,7 +55,7 @@ pub fn seal_content<'a>(
     payload: &'a [u8],
 ) -> Result<Content<'a>, Answer>
     requires { has policy_name (policy_in body.now) site.now.book.policies ≡ true }
-    ensures shown { (s : State) (asked : Asked) (size moment : ℕ) → IsStateOf site.now images.now s → first_refusal (backup_refusals asked moment s) ≡ None → body.now ≡ backup_body asked size moment s → IsShown (backup_shown asked payload.now moment s) result }
+    ensures content { (s : State) (asked : Asked) (size moment : ℕ) → IsStateOf site.now images.now s → first_refusal (backup_refusals asked moment s) ≡ None → body.now ≡ backup_body asked size moment s → IsShown (backup_content asked payload.now moment s) result }
     ensures bytes { (s : State) (asked : Asked) (size moment : ℕ) → IsStateOf site.now images.now s → first_refusal (backup_refusals asked moment s) ≡ None → body.now ≡ backup_body asked size moment s → IfOk result (λ content. content_bytes content ≡ (image_asked asked payload.now moment s).bytes) }
     // An image of a stream has no more bytes than the stream.
     ensures short { IfOk result (λ content. length (content_bytes content) ≤ length payload.now) }
@@ -76,7 +76,7 @@ fn check_content<'a>(
     payload: &'a [u8],
 ) -> Result<Content<'a>, Refusal>
     requires { has policy_name name.now site.now.book.policies ≡ true }
-    ensures passes { Passes (shown_under (policy_of name.now site.now.book) base payload.now site.now images.now) result }
+    ensures passes { Passes (content_under (policy_of name.now site.now.book) base payload.now site.now images.now) result }
     ensures bytes { IfOk result (λ content. content_bytes content ≡ sealed_bytes (policy_of name.now site.now.book) (base_time base) payload.now) }
     ensures short { IfOk result (λ content. length (content_bytes content) ≤ length payload.now) }
 {

@@ -4,7 +4,7 @@ use Rattle.site_types.specs.Classes.{RequestClass, site_change, site_file, backu
 use Rattle.site_types.specs.declared.answer.Answer.TheVariants as answer
 use Rattle.site_types.specs.declared.answer.Answer.TheVariants.{Done}
 use Rattle.vault_disk.specs.Disk.{Image as DiskImage}
-use Rattle.desk_model.specs.Backups.{backup_shown}
+use Rattle.desk_model.specs.Backups.{backup_content}
 use Rattle.desk_rules.specs.declared.decision.Change.TheVariants.{Nothing}
 use Rattle.desk_rules.specs.declared.decision.Decision.{Decision}
 use Rattle.desk_rules.specs.Decisions.{Decides, DecidesAs, IsChange, IsDecision, IsStateOf, told}
@@ -36,9 +36,9 @@ plain_case s (backup client policy schedule start) payload moment =
 plain_case s (restore id copy) payload moment = ((λ _. (tt, tt)), ((λ _. (tt, tt)), (too_long _, tt)))
 plain_case s (restore_at client policy before) payload moment = ((λ _. (tt, tt)), ((λ _. (tt, tt)), ((λ _. (tt, tt)), ((λ _. (tt, tt)), (too_long _, tt)))))
 
--- what a backup's bytes show
-pub plain_shown : (asked : Asked) (payload : List ℕ) (moment : ℕ) (s : State) → ArePlain (backup_shown asked payload moment s)
-plain_shown asked payload moment s = ((λ _. (tt, tt)), ((λ _. limited (codes "pieces") _ _ (λ same. omega (arith, ap length same))), ((λ _. (tt, tt)), tt)))
+-- the content of a backup
+pub plain_content : (asked : Asked) (payload : List ℕ) (moment : ℕ) (s : State) → ArePlain (backup_content asked payload moment s)
+plain_content asked payload moment s = ((λ _. (tt, tt)), ((λ _. limited (codes "pieces") _ _ (λ same. omega (arith, ap length same))), ((λ _. (tt, tt)), tt)))
 
 -- A decision on a request of this class.
 

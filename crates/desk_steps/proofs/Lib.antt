@@ -4,3 +4,9 @@ pub mod DecidedSteps
 pub mod ReadImages
 pub mod RestoredImages
 pub mod OpenedVaults
+pub mod OpenedJournals
+pub mod AllowedBackups
+pub mod SealedSteps
+pub mod StoredSteps
+pub mod ChainBodies
+pub mod RestoredChains

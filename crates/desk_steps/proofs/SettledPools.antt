@@ -3,9 +3,10 @@ use Rattle.desk_model.proofs.Common.{◌≡◌, ◌∙◌, ◌+◌, ℕ, Bool, t
 use Rattle.site_types.specs.declared.answer.Answer.TheVariants.{Done, DiskFault}
 use Rattle.site_types.proofs.OptionLemmas.{chained}
 use Rattle.vault_disk.specs.Disk.{Disk, Image as DiskImage}
-use Rattle.pool_journal.specs.Entries.{Record, IsStaged}
+use Rattle.pool_journal.specs.Entries.{IsStaged}
 use Rattle.pool_journal.specs.Records.{Found}
 use Rattle.pool_journal.specs.Stops.{Appended, AtRest, Stops}
+use Rattle.pool_journal.specs.declared.entry.Entry.{Entry}
 use Rattle.pool_journal.specs.declared.entry.Entry.TheVariants as entry
 use Rattle.pool_journal.specs.declared.segments.NewSegment.{NewSegment}
 use Rattle.vault_ledger.specs.Fitting.{settled, settled_by}
@@ -17,7 +18,7 @@ use Rattle.vault_ledger.proofs.LedgerUnits.{none_live}
 use Rattle.vault_ledger.proofs.SettledLines.{line_done}
 use Rattle.vault_ledger.proofs.TrueUnits.{true_pools, true_unit}
 use Rattle.vault_ledger.proofs.UnitPlaces.{PlacesStay, places_stay}
-use Rattle.desk_index.specs.Changes.{IsReady, settings_record}
+use Rattle.desk_index.specs.Changes.{IsReady}
 use Rattle.desk_index.specs.declared.index.Index.{Index}
 use Rattle.desk_steps.specs.Steps.{StepsOver}
 use Rattle.desk_steps.proofs.StepCases.{recorded_over, unrecorded_over}
@@ -74,20 +75,20 @@ module _ (l : Ledger) (order : IsLedger l) (lines : List (List ℕ)) (t : State)
 -- A record of settings that was made ready is written.
 
 module _ (l : Ledger) (order : IsLedger l) (request : Request) (payload : List ℕ) (moment : ℕ) (staged body : List ℕ) (index : Index) (ready : IsReady l request payload moment staged body index) (old new : Disk) (end : ℕ)
-    (stops : (r : Record) → IsStaged r staged → (fs : List Found) → old.tells → AtRest old end fs → Stops fs end r old new) where
+    (stops : (e : Entry) → IsStaged e staged → (fs : List Found) → old.tells → AtRest old end fs → Stops fs end e old new) where
   abbrev after : Ledger
   after = with_outline l ready.outline
 
-  abbrev row : Record
-  row = settings_record ready.lines
+  abbrev row : Entry
+  row = entry.Settings ready.lines
 
-  fits : recorded l (entry.Settings ready.lines) ≡ Some after
+  fits : recorded l row ≡ Some after
   fits = ap (λ (o : Option State). option_map (with_outline l) o) ready.settled_is
 
   next : KeptLedger old end l → (are_true old.seen after after.outline.stored ≡ true) × KeepsLive old after
   next kept = (settled_true l order ready.lines ready.outline ready.settled_is old.seen kept.is_true, settled_keeps l order ready.lines ready.outline ready.settled_is old kept.keeps)
 
-  pub ready_written : (end' : ℕ) → ((r : Record) → IsStaged r staged → (fs : List Found) → old.tells → AtRest old end fs → Appended fs end r old new end') → StepsOver l request payload moment (Done body) old new end end' index
+  pub ready_written : (end' : ℕ) → ((e : Entry) → IsStaged e staged → (fs : List Found) → old.tells → AtRest old end fs → Appended fs end e old new end') → StepsOver l request payload moment (Done body) old new end end' index
   ready_written end' appended =
       recorded_over l after row request payload moment body old new end fits ready.steps next (λ told fs rest. stops row ready.staged_is fs told rest) end' index ready.index_is (λ told fs rest. appended row ready.staged_is fs told rest)
 

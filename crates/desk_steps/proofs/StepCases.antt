@@ -5,7 +5,7 @@ use Rattle.site_types.specs.declared.answer.Answer.TheVariants.{Done, DiskFault}
 use Rattle.vault_disk.specs.Disk.{Disk, Image as DiskImage, IsSame, Now}
 use Rattle.vault_disk.specs.Steps.{LookedAround}
 use Rattle.vault_disk.proofs.Moments.{goes_on, started, weaker}
-use Rattle.pool_journal.specs.Entries.{Record}
+use Rattle.pool_journal.specs.declared.entry.Entry.{Entry}
 use Rattle.pool_journal.specs.Records.{Found}
 use Rattle.pool_journal.specs.Stops.{Appended, AtRest, Stops, with_one}
 use Rattle.vault_ledger.specs.Keeping.{Between, KeepsLive, KeptLedger}
@@ -69,30 +69,30 @@ refused_over l request payload moment answer disk end index is refused = looked_
 
 -- What a record does that takes a ledger to another one.
 
-module _ (l m : Ledger) (r : Record) (request : Request) (payload : List ℕ) (moment : ℕ) (body : List ℕ) (old new : Disk) (end : ℕ) (fits : recorded l r.entry ≡ Some m)
+module _ (l m : Ledger) (e : Entry) (request : Request) (payload : List ℕ) (moment : ℕ) (body : List ℕ) (old new : Disk) (end : ℕ) (fits : recorded l e ≡ Some m)
     (steps : (c : DiskImage) → step (state_over c l) request payload moment ≡ (Done body, state_over c m))
     (next : KeptLedger old end l → (are_true old.seen m m.outline.stored ≡ true) × KeepsLive old m)
-    (stops : old.tells → (fs : List Found) → AtRest old end fs → Stops fs end r old new) where
+    (stops : old.tells → (fs : List Found) → AtRest old end fs → Stops fs end e old new) where
   between : old.tells → (kept : KeptLedger old end l) → Between (state_over old.seen l) (step (state_over old.seen l) request payload moment).1 old new
   between told kept =
       let after = next kept in
       subst (λ (t : State). Between (state_over old.seen l) t old new) (sym (ap (λ (p : Answer × State). p.1) (steps old.seen)))
-      (append_between l m r old new end kept fits after.0 after.1 (stops told kept.records kept.rest))
+      (append_between l m e old new end kept fits after.0 after.1 (stops told kept.records kept.rest))
 
   -- it was written
-  pub recorded_over : (end' : ℕ) (index' : Index) → IsIndexOf m index' → (old.tells → (fs : List Found) → AtRest old end fs → Appended fs end r old new end') → StepsOver l request payload moment (Done body) old new end end' index'
+  pub recorded_over : (end' : ℕ) (index' : Index) → IsIndexOf m index' → (old.tells → (fs : List Found) → AtRest old end fs → Appended fs end e old new end') → StepsOver l request payload moment (Done body) old new end end' index'
   recorded_over end' index' is appended = record {
     goes_on = λ other. record {
       ledger = m;
       is = is;
       says = λ told says. record {
-        records = with_one says.records end r;
+        records = with_one says.records end e;
         rest = (appended told says.records says.rest).rest;
-        says = recorded_push 0 (Some new_ledger) says.records end r l m says.says fits;
+        says = recorded_push 0 (Some new_ledger) says.records end e l m says.says fits;
       };
       kept = λ told kept.
           let after = next kept in
-          let more = append_kept l m r old new end kept fits after.0 after.1 (stops told kept.records kept.rest) end' (appended told kept.records kept.rest) in
+          let more = append_kept l m e old new end kept fits after.0 after.1 (stops told kept.records kept.rest) end' (appended told kept.records kept.rest) in
           (more.0, more.2 ∙ sym (ap (λ (p : Answer × State). p.1) (steps old.seen)));
     };
     from = λ told kept. record {

@@ -23,6 +23,10 @@ pub record IsFound (old new : Disk) (end : ℕ) (index : Index) : Type 0 where
 abbrev pub Opens : State → Disk → Disk → Type 0
 Opens s old new = OpensTo (λ c. stands c ≡ Some s) old new
 
+-- until the first sync of the journal has succeeded a stop leaves what it could leave before, and from then on a journal that reads the same, whether or not it is a vault's
+abbrev pub KeepsJournal : Disk → Disk → Type 0
+KeepsJournal old new = OpensTo (λ c. journal_reads c ≡ journal_reads old.seen) old new
+
 -- a fault of an opening: no vault exactly where the journal reads as none, with the offset of that
 abbrev pub IsFaultOf : Result Ledger ℕ → JournalFault → Type 0
 IsFaultOf found journal.NoMemory = Unit {0}

@@ -43,3 +43,14 @@ is_change request = changes (class_of request)
 -- a step over a ledger and pools that are true is refused so, and nothing is done
 abbrev pub IsRefusedOverTrue : Ledger → Request → List ℕ → ℕ → Answer → Type 0
 IsRefusedOverTrue l request payload moment answer = (c : DiskImage) → are_true c l l.outline.stored ≡ true → IsRefused (state_over c l) request payload moment answer
+
+-- a request that is carried out writes a record, but a restore writes none
+abbrev pub writes : RequestClass → Bool
+writes (site_change request) = true
+writes site_file = true
+writes (backup client policy schedule start) = true
+writes (restore id copy) = false
+writes (restore_at client policy before) = false
+
+abbrev pub is_written : Request → Bool
+is_written request = writes (class_of request)

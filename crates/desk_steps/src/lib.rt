@@ -4,12 +4,13 @@
 //! leaves the state before or after.
 #![tactic(auto)]
 
+mod backup;
+mod carrying;
+mod chain;
 mod changing;
 mod opening;
 mod reading;
 mod restoring;
 
-pub use changing::change_site;
+pub use carrying::carry_out;
 pub use opening::{Opened, open};
-pub use reading::read_images;
-pub use restoring::restore;

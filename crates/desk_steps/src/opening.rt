@@ -5,7 +5,7 @@ ghost use Rattle.vault_disk.specs.Steps.{Rose};
 ghost use Rattle.desk_model.specs.State.{State};
 ghost use Rattle.vault_ledger.specs.Ledger.{Ledger, journal_reads, stands};
 ghost use Rattle.desk_index.specs.Index.{IsIndexOf};
-ghost use Rattle.desk_steps.specs.Openings.{IsFaultOf, IsFound, Opens};
+ghost use Rattle.desk_steps.specs.Openings.{IsFaultOf, IsFound, KeepsJournal, Opens};
 
 use desk_index::{Index, replay};
 use pool_journal::{Journal, JournalFault};
@@ -28,6 +28,8 @@ pub fn open<V: Vault>(alloc: Global, vault: &mut V) -> Result<Opened, JournalFau
     ensures known { IfOk result (λ o. (l : Ledger) × IsIndexOf l o.index) }
     ensures found { (V.disk vault.old).tells → IfOk result (λ o. IsFound (V.disk vault.old) (V.disk vault.new) o.journal o.index) }
     ensures stops { (s : State) → (V.disk vault.old).tells → stands (V.disk vault.old).seen ≡ Some s → Opens s (V.disk vault.old) (V.disk vault.new) }
+    // Also of a journal that is no vault's nothing is lost.
+    ensures journal { (V.disk vault.old).tells → KeepsJournal (V.disk vault.old) (V.disk vault.new) }
     ensures not_a_vault { (V.disk vault.old).tells → IfErr result (IsFaultOf (journal_reads (V.disk vault.old).seen)) }
     ensures failed { IfErr result (λ fault. fault ≡ JournalFault.DiskFault → Rose (V.disk vault.old).faults (V.disk vault.new).faults) }
     ensures same { IsSame (V.disk vault.old) (V.disk vault.new) }

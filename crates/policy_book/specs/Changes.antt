@@ -1,5 +1,5 @@
 -- The changes of a book: for each, the refusals in their order, and the book afterwards.
-use Rattle.std.specs.Prelude.{ℕ, Bool, true, false, not, ◌&&◌, nat_le, is_some, List, [], ◌∷◌, ◌++◌, length, codes, Option, find, filter, unwrap_or, max}
+use Rattle.std.specs.Prelude.{ℕ, Bool, true, false, not, ◌&&◌, nat_le, is_some, List, [], ◌∷◌, ◌++◌, length, codes, Option, Some, None, option_map, find, filter, unwrap_or, max}
 use Rattle.std.specs.List.{list_any}
 use Rattle.std.specs.Option.{option_map_or}
 use Rattle.std.specs.Str.{bytes_eq}
@@ -91,6 +91,19 @@ last_of name book = option_map_or (λ c. c.last) (named client_name name book.cl
 -- a backup of the client with this time was sealed: its last id time is raised, and a client that isn't there is added
 abbrev pub client_sealed : List ℕ → ℕ → Book → Book
 client_sealed name time book = record book { clients = put client_name (record { name = name; last = max (last_of name book) time }) book.clients }
+
+-- a client's last id time where the client is in the book
+abbrev pub last_known : List ℕ → Book → Option ℕ
+last_known name book = option_map (λ c. c.last) (named client_name name book.clients)
+
+-- a client with this last id time
+abbrev pub with_last : ℕ → Client → Client
+with_last time c = record c { last = time }
+
+-- a backup of the client that was sealed is taken back, with what was known before: the client isn't there, or its last id time is that again
+abbrev pub client_unsealed : List ℕ → Option ℕ → Book → Book
+client_unsealed name None book = client_removed name book
+client_unsealed name (Some last) book = record book { clients = changed client_name name (with_last last) book.clients }
 
 -- Policies.
 

@@ -1,16 +1,16 @@
 // The clients of a book.
-ghost use Rattle.std.specs.Prelude.{◌≡◌, true, ◌++◌, codes, IfOk, IsOk, OnOk, OnErr};
+ghost use Rattle.std.specs.Prelude.{◌≡◌, ℕ, true, ◌++◌, codes, IfOk, IsOk, OnOk, OnErr};
 ghost use Rattle.std.specs.Option.{option_copied};
-ghost use Rattle.policy_book.specs.Lists.{has};
-ghost use Rattle.policy_book.specs.Book.{client_name};
-ghost use Rattle.policy_book.specs.Changes.{client_add_refusals, client_remove_refusals, client_sealed, last_of, last_raised, lister};
+ghost use Rattle.policy_book.specs.Lists.{AreByName, changed, has};
+ghost use Rattle.policy_book.specs.Book.{Book as BookValue, client_name};
+ghost use Rattle.policy_book.specs.Changes.{client_add_refusals, client_remove_refusals, client_sealed, client_unsealed, last_known, last_of, last_raised, lister, with_last};
 ghost use Rattle.policy_book.specs.Refusals.{Allows};
 
 use crate::book::Book;
 use crate::refusals::{check_new, check_room, known_place};
 use crate::{BookFault, Client, NoMemory, Policy};
 use site_types::{Name, Text};
-use slp_tree::named::{place, put};
+use slp_tree::named::{place, put, remove};
 use std::alloc::Global;
 
 /// How many clients there may be.
@@ -47,6 +47,14 @@ impl Book {
         }
     }
 
+    /// The greatest time of a client's images so far, in seconds since 1970-01-01T00:00:00Z, and None exactly where no client has
+    /// this name.
+    pub fn last_known(&self, client: &Name) -> Option<u64>
+        ensures { result ≡ last_known client.now self.now }
+    {
+        self.client(client).map(|found| found.last)
+    }
+
     /// Notes an image of a client with this time, in seconds since 1970-01-01T00:00:00Z: raises the client's greatest time to it,
     /// and adds the client where it isn't there. It takes memory only for a client that isn't there.
     pub fn seal_client(&mut self, alloc: Global, client: &Name, time: u64) -> Result<(), NoMemory>
@@ -70,6 +78,18 @@ impl Book {
         Ok(())
     }
 
+    /// Takes back what `seal_client` noted, with what `last_known` was before it: None removes the client, and a time is its greatest
+    /// time again. It takes no memory.
+    pub fn unseal_client(&mut self, client: &Name, last: Option<u64>)
+        ensures unsealed { self.new ≡ client_unsealed client.now last self.old }
+        ensures back { (before : BookValue) (time : ℕ) → self.old ≡ client_sealed client.now time before → last ≡ last_known client.now before → self.new ≡ before }
+    {
+        match last {
+            None => remove(&mut self.clients, client),
+            Some(time) => set_last(&mut self.clients, client, time),
+        }
+    }
+
     /// Raises the greatest time of a client's images to this one, in seconds since 1970-01-01T00:00:00Z, where it is lower.
     pub fn raise_last(&mut self, client: &Name, time: u64)
         requires { has client_name client.now self.old.clients ≡ true }
@@ -79,6 +99,16 @@ impl Book {
             let found = &mut self.clients[at];
             found.last = found.last.max(time);
         }
+    }
+}
+
+fn set_last(clients: &mut Vec<Client>, client: &Name, time: u64)
+    requires { AreByName client_name clients.old.items }
+    ensures set { clients.new.items ≡ changed client_name client.now (with_last time) clients.old.items }
+    ensures by_name { AreByName client_name clients.new.items }
+{
+    if let Ok(at) = place(clients, client) {
+        clients[at].last = time;
     }
 }
 

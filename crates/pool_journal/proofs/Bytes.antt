@@ -1,10 +1,10 @@
 -- What is read of the bytes of records, and what writes make of them.
-use Rattle.pool_journal.proofs.Common.{◌≡◌, inl, inr, ℕ, zero, suc, ◌+◌, ◌-◌, ◌*◌, ◌≤◌, ◌<◌, ◌^◌, min, List, [], ◌∷◌, ◌++◌, length, take, drop, replicate, get_or, refl, sym, ◌∙◌, ap, subst, arith, append_assoc, length-append, take-append-drop, add-zero, Some, if◌then◌else◌, nat_lt, nat_le, from_be_bytes-to_be_bytes_4, w32, to_be_bytes, from_be_bytes, written, Torn, lt-ltb, ne_eqb, le-leb, drop_more, drop-drop, cases_eq, cases_lt, cond-true, lt-leb, Record, record_of, spelled_entry, staged_record, header, Found, Reading, found, broken, behind, bytes_from, with_record, records, reading, spelled, AllSmall, Spell, Holds, with_one, IsBeforeOrAfter}
+use Rattle.pool_journal.proofs.Common.{◌≡◌, inl, inr, ℕ, zero, suc, ◌+◌, ◌-◌, ◌*◌, ◌≤◌, ◌<◌, ◌^◌, min, List, [], ◌∷◌, ◌++◌, length, take, drop, replicate, get_or, refl, sym, ◌∙◌, ap, subst, arith, append_assoc, length-append, take-append-drop, add-zero, Some, if◌then◌else◌, nat_lt, nat_le, from_be_bytes-to_be_bytes_4, w32, to_be_bytes, from_be_bytes, written, Torn, lt-ltb, ne_eqb, le-leb, drop_more, drop-drop, cases_eq, cases_lt, cond-true, lt-leb, Entry, entry_of, staged_record, header, Found, Reading, found, broken, behind, with_record, records, reading, spelled, AllSmall, Spell, Holds, with_one, IsBeforeOrAfter}
 use Rattle.std.proofs.lemmas.List.{take_at, drop_at, append-nil}
 
 -- the record at an open gate, its length known
 abbrev pub AtRecord : ℕ → ℕ → ℕ → List ℕ → Reading
-AtRecord n at size rest = if nat_lt (4 + size) (length rest) then with_record at size (record_of (take size (drop 4 rest))) (records n (at + 5 + size) (drop (4 + size) rest)) else broken [] at
+AtRecord n at size rest = if nat_lt (4 + size) (length rest) then with_record at (entry_of (take size (drop 4 rest))) (records n (at + 5 + size) (drop (4 + size) rest)) else broken [] at
 
 -- records read before what is read behind them
 abbrev pub all_behind : List Found → Reading → Reading
@@ -34,11 +34,11 @@ read_on (suc n) at (b ∷ bodies) (f ∷ fs) rest spell small some long =
     let long_enough : 4 + length b < length after = omega (arith, length-append (b ++ spelled bodies) rest, length-append b (spelled bodies)) in
     let body : take (length b) (drop 4 after) ≡ b = ap (λ (l : List ℕ). take (length b) l) split ∙ take_at b behind_body (length b) refl in
     let next : drop (4 + length b) after ≡ behind_body = sym (drop-drop (length b) 4 after) ∙ rw split (drop_at b behind_body (length b) refl) in
-    let more = read_on n (at + 5 + length b) bodies fs rest spell.3 small.1 some (omega arith) in
+    let more = read_on n (at + 5 + length b) bodies fs rest spell.2 small.1 some (omega arith) in
     let place : at + 5 + length b + length (spelled bodies) ≡ at + length (spelled (b ∷ bodies)) = omega (arith, length-append b (spelled bodies)) in
-    let one : record { at = at; from = bytes_from at (length b) f.is; is = f.is } ≡ f = λ i. record { at = sym spell.0 i; from = sym spell.1 i; is = f.is } in
+    let one : record { at = at; is = f.is } ≡ f = λ i. record { at = sym spell.0 i; is = f.is } in
     let here : AtRecord n at (length b) after ≡ all_behind (f ∷ fs) (records (suc more.0) (at + length (spelled (b ∷ bodies))) rest) =
-    rw (lt-ltb (4 + length b) (length after) long_enough, body, next, spell.2, more.1, place) (ap (λ (g : Found). behind g (all_behind fs (records (suc more.0) (at + length (spelled (b ∷ bodies))) rest))) one) in
+    rw (lt-ltb (4 + length b) (length after) long_enough, body, next, spell.1, more.1, place) (ap (λ (g : Found). behind g (all_behind fs (records (suc more.0) (at + length (spelled (b ∷ bodies))) rest))) one) in
     (more.0, rw size here)
 
 -- so many bytes for so many records at least
@@ -112,15 +112,13 @@ pub AllSmall-push : (bodies : List (List ℕ)) (body : List ℕ) → AllSmall bo
 AllSmall-push [] body small fits = (fits, tt)
 AllSmall-push (x ∷ bodies) body small fits = (small.0, AllSmall-push bodies body small.1 fits)
 
-pub Spell-push : (at : ℕ) (bodies : List (List ℕ)) (fs : List Found) (body : List ℕ) (f : Found) → Spell at bodies fs → f.at ≡ at + length (spelled bodies) → f.from ≡ bytes_from f.at (length body) f.is → record_of body ≡ Some f.is → Spell at (bodies ++ body ∷ []) (fs ++ f ∷ [])
-Spell-push at [] [] body f spell at_is from_is is =
-    let place : f.at ≡ at = at_is ∙ add-zero at in
-    (place, from_is ∙ ap (λ (k : ℕ). bytes_from k (length body) f.is) place, is, tt)
-Spell-push at [] (g ∷ fs) body f spell at_is from_is is = absurd spell
-Spell-push at (b ∷ bodies) [] body f spell at_is from_is is = absurd spell
-Spell-push at (b ∷ bodies) (g ∷ fs) body f spell at_is from_is is =
+pub Spell-push : (at : ℕ) (bodies : List (List ℕ)) (fs : List Found) (body : List ℕ) (f : Found) → Spell at bodies fs → f.at ≡ at + length (spelled bodies) → entry_of body ≡ Some f.is → Spell at (bodies ++ body ∷ []) (fs ++ f ∷ [])
+Spell-push at [] [] body f spell at_is is = (at_is ∙ add-zero at, is, tt)
+Spell-push at [] (g ∷ fs) body f spell at_is is = absurd spell
+Spell-push at (b ∷ bodies) [] body f spell at_is is = absurd spell
+Spell-push at (b ∷ bodies) (g ∷ fs) body f spell at_is is =
     let place : f.at ≡ at + 5 + length b + length (spelled bodies) = omega (arith, at_is, length-append b (spelled bodies)) in
-    (spell.0, spell.1, spell.2, Spell-push (at + 5 + length b) bodies fs body f spell.3 place from_is is)
+    (spell.0, spell.1, Spell-push (at + 5 + length b) bodies fs body f spell.2 place is)
 
 length-spelled-push : (bodies : List (List ℕ)) (body : List ℕ) → length (spelled (bodies ++ body ∷ [])) ≡ length (spelled bodies) + 5 + length body
 length-spelled-push bodies body =
@@ -158,8 +156,8 @@ module _ (fs : List Found) (end : ℕ) (o : List ℕ) (holds : Holds o fs end) w
       is ∙ ap (λ (l : List ℕ). written l (end + 1) (staged_record body)) whole ∙ written_at p holds.tail (staged_record body) (end + 1) long
       ∙ append_assoc p (staged_record body) rest ∙ append_assoc (front holds.bodies) (holds.gate ∷ []) (staged_record body ++ rest)
 
-  module _ (body : List ℕ) (r : Record) (fits : length body < 2 ^ 32) (spells : record_of body ≡ Some r) (size : length body ≡ length (spelled_entry r.entry) + length r.bytes) where
-    pub opened : (rest : List ℕ) → Holds (front holds.bodies ++ 165 ∷ (staged_record body ++ rest)) (with_one fs end r) (end + 5 + length body)
+  module _ (body : List ℕ) (e : Entry) (fits : length body < 2 ^ 32) (spells : entry_of body ≡ Some e) where
+    pub opened : (rest : List ℕ) → Holds (front holds.bodies ++ 165 ∷ (staged_record body ++ rest)) (with_one fs end e) (end + 5 + length body)
     opened rest = record {
       bodies = holds.bodies ++ body ∷ [];
       gate = 0;
@@ -167,20 +165,20 @@ module _ (fs : List Found) (end : ℕ) (o : List ℕ) (holds : Holds o fs end) w
       shut = λ z. absurd (cc z);
       is = ap (λ (l : List ℕ). header ++ l) (sym (spelled-push holds.bodies body rest));
       small = AllSmall-push holds.bodies body holds.small fits;
-      spell = Spell-push 16 holds.bodies fs body (record { at = end; from = end + 5 + length (spelled_entry r.entry); is = r }) holds.spell holds.end_is (omega (arith, size)) spells;
+      spell = Spell-push 16 holds.bodies fs body (record { at = end; is = e }) holds.spell holds.end_is spells;
       end_is = omega (arith, holds.end_is, length-spelled-push holds.bodies body);
     }
 
     -- behind any gate it counts or it doesn't
-    gate_counts : (rest : List ℕ) (g : ℕ) → IsBeforeOrAfter fs end r (front holds.bodies ++ g ∷ (staged_record body ++ rest))
+    gate_counts : (rest : List ℕ) (g : ℕ) → IsBeforeOrAfter fs end e (front holds.bodies ++ g ∷ (staged_record body ++ rest))
     gate_counts rest g = elim (cases_eq g 165) [
-      | inl open_gate ↦ inr (ap (λ (k : ℕ). reading (front holds.bodies ++ k ∷ (staged_record body ++ rest))) open_gate ∙ reads _ (with_one fs end r) _ (opened rest))
+      | inl open_gate ↦ inr (ap (λ (k : ℕ). reading (front holds.bodies ++ k ∷ (staged_record body ++ rest))) open_gate ∙ reads _ (with_one fs end e) _ (opened rest))
       | inr shut ↦
           inl (reads (front holds.bodies ++ g ∷ (staged_record body ++ rest)) fs end
           (record { bodies = holds.bodies; gate = g; tail = staged_record body ++ rest; shut = shut; is = refl; small = holds.small; spell = holds.spell; end_is = holds.end_is }))
     ]
 
-    pub torn_gate : (rest c : List ℕ) (g : ℕ) → Torn end 1 (front holds.bodies ++ g ∷ (staged_record body ++ rest)) c → IsBeforeOrAfter fs end r c
+    pub torn_gate : (rest c : List ℕ) (g : ℕ) → Torn end 1 (front holds.bodies ++ g ∷ (staged_record body ++ rest)) c → IsBeforeOrAfter fs end e c
     torn_gate rest c g torn =
         let more : List ℕ = staged_record body ++ rest in
         let kept = torn_at (front holds.bodies) (g ∷ more) c end 1 length_front torn in
@@ -188,10 +186,10 @@ module _ (fs : List Found) (end : ℕ) (o : List ℕ) (holds : Holds o fs end) w
         let after : drop (end + 1) c ≡ more = torn.after ∙ sym (drop-drop 1 end (front holds.bodies ++ g ∷ more)) ∙ ap (λ (l : List ℕ). drop 1 l) (drop_at (front holds.bodies) (g ∷ more) end length_front) in
         let now : ℕ = get_or c end 0 in
         let whole : c ≡ front holds.bodies ++ now ∷ more = kept ∙ ap (λ (l : List ℕ). front holds.bodies ++ l) (drop_more c end 0 long ∙ ap (λ (l : List ℕ). now ∷ l) after) in
-        subst (λ (l : List ℕ). IsBeforeOrAfter fs end r l) (sym whole) (gate_counts rest now)
+        subst (λ (l : List ℕ). IsBeforeOrAfter fs end e l) (sym whole) (gate_counts rest now)
 
-    pub gate_opened : (rest c : List ℕ) (g : ℕ) → c ≡ written (front holds.bodies ++ g ∷ (staged_record body ++ rest)) end (165 ∷ []) → Holds c (with_one fs end r) (end + 5 + length body)
+    pub gate_opened : (rest c : List ℕ) (g : ℕ) → c ≡ written (front holds.bodies ++ g ∷ (staged_record body ++ rest)) end (165 ∷ []) → Holds c (with_one fs end e) (end + 5 + length body)
     gate_opened rest c g is =
         let more : List ℕ = staged_record body ++ rest in
         let done : c ≡ front holds.bodies ++ 165 ∷ more = is ∙ written_at (front holds.bodies) (g ∷ more) (165 ∷ []) end length_front ∙ append_assoc (front holds.bodies) (165 ∷ []) more in
-        subst (λ (l : List ℕ). Holds l (with_one fs end r) (end + 5 + length body)) (sym done) (opened rest)
+        subst (λ (l : List ℕ). Holds l (with_one fs end e) (end + 5 + length body)) (sym done) (opened rest)

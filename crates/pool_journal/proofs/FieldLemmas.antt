@@ -1,15 +1,13 @@
 -- Reading what was spelled, field by field.
-use Rattle.pool_journal.proofs.Common.{◌≡◌, ◌≢◌, inl, inr, ℕ, ◌<◌, ◌^◌, List, [], ◌∷◌, ◌++◌, length, Some, None, true, refl, sym, ◌∙◌, ap, suc, arith, append_assoc, length-append, option_map, nat_lt, ◌==◌, if◌then◌else◌, take_at, drop_at, append-nil, nat_tests, from_be_bytes-to_be_bytes_2, from_be_bytes-to_be_bytes_4, from_be_bytes-to_be_bytes_8, w16, w32, w64, to_be_bytes, WholeImage, le-ltb, cases_eq, cond-false, string, strings, kind_code, base_code, Field, short_field, count_field, long_field, strings_field, string_field, name_field, kind_field, base_coded, base_field, both, byte_field, Kind, Full, Differential, Cumulative, Base, Record, spelled_id, spelled_names, spelled_kind_and_base, spelled_lifecycle, spelled_longs, spelled_image, spelled_settings, spelled_entry, body_of, id_made, id_field, made_under_field, taken_as_field, version_field, moments_field, settings_field, whole_image_field, record_of, AllShort, AreLines, IsFormed, IsSpellable, Entry, IdFits, many_field, counted_field, AreCounted, NewSegment, SegmentFits, Segments, SegmentsFit, SlotFits, backup_field, copied_as_field, copy_field, stored_copy_field, counted, segment_field, segment_made, segments_field, segments_made, spelled_copy, spelled_segment, spelled_segments, spelled_slot}
+use Rattle.pool_journal.proofs.Common.{◌≡◌, ◌≢◌, inl, inr, ℕ, ◌<◌, ◌^◌, List, [], ◌∷◌, ◌++◌, length, Some, None, true, refl, sym, ◌∙◌, ap, suc, arith, append_assoc, length-append, option_and_then, option_map, nat_lt, take_at, drop_at, append-nil, nat_tests, from_be_bytes-to_be_bytes_2, from_be_bytes-to_be_bytes_4, from_be_bytes-to_be_bytes_8, w16, w32, w64, to_be_bytes, WholeImage, le-ltb, cases_eq, cond-false, string, strings, kind_code, base_code, Field, short_field, count_field, long_field, strings_field, string_field, name_field, kind_field, base_coded, base_field, both, Kind, Full, Differential, Cumulative, Base, spelled_id, spelled_names, spelled_kind_and_base, spelled_lifecycle, spelled_longs, spelled_image, spelled_settings, spelled_entry, id_made, id_field, made_under_field, taken_as_field, version_field, moments_field, settings_field, whole_image_field, entry_of, alone, backup_entry, copy_entry, AllShort, AreLines, IsFormed, IsSpellable, Entry, IdFits, many_field, counted_field, AreCounted, NewSegment, SegmentFits, Segments, SegmentsFit, SlotFits, backup_field, copied_as_field, copy_field, stored_copy_field, counted, segment_field, segment_made, segments_field, segments_made, spelled_copy, spelled_segment, spelled_segments, spelled_slot}
 use Rattle.std.specs.Prelude.{All, flat_map}
 use Rattle.std.proofs.lemmas.List.Elements.{All-head, All-tail}
 use Rattle.site_types.specs.Fields.{bytes_field}
 use Rattle.site_types.specs.declared.id.BackupId.{BackupId}
 use Rattle.site_types.specs.Names.{is_name}
+use Rattle.pool_journal.specs.Entries.{ImageFits}
 use Rattle.site_types.specs.declared.image.Base.TheVariants as base
 use Rattle.pool_journal.specs.declared.entry.Entry.TheVariants as entry
-
-chosen : {A : Type 0} (m n : ℕ) (x y : A) → m ≡ n → (if m == n then x else y) ≡ x
-chosen m n x y is = grind (arith, nat_tests)
 
 pub short-spelled : (n : ℕ) (rest : List ℕ) → n < 2 ^ 16 → short_field (to_be_bytes w16 n ++ rest) ≡ Some (n, rest)
 short-spelled n rest small = cond-false (nat_lt (length (to_be_bytes w16 n ++ rest)) 2) None _ (le-ltb (length (to_be_bytes w16 n ++ rest)) 2 (omega arith)) ∙ ap (λ (k : ℕ). Some (k, rest)) (from_be_bytes-to_be_bytes_2 n small)
@@ -49,7 +47,7 @@ id-spelled : (id : BackupId) (rest : List ℕ) → IdFits id → id_field (spell
 id-spelled id rest fits =
     ap (option_map id_made) (both-spelled name_field long_field id.client id.time (string id.client) (to_be_bytes w64 id.time) rest (name-spelled _ _ fits.client) (long-spelled _ _ fits.time))
 
-pub image-spelled : (image : WholeImage) (rest : List ℕ) → IsSpellable (entry.WholeImage image) → image.base ≢ base.Time 0 → whole_image_field (spelled_image image ++ rest) ≡ Some (image, rest)
+pub image-spelled : (image : WholeImage) (rest : List ℕ) → ImageFits image → image.base ≢ base.Time 0 → whole_image_field (spelled_image image ++ rest) ≡ Some (image, rest)
 image-spelled image rest can formed =
     let a : List ℕ = spelled_id image.id in
     let b : List ℕ = spelled_names image.policy image.schedule in
@@ -130,17 +128,10 @@ copy-spelled id copy completed segments rest can few =
     both-spelled id_field copied_as_field id (copy, completed) (spelled_id id) (spelled_copy copy completed) _ (id-spelled id _ can.0.named) (copied_as-spelled copy completed _ can.0.moment) in
     both-spelled copy_field segments_field (id, (copy, completed)) segments (spelled_id id ++ spelled_copy copy completed) (spelled_segments segments) rest named (segments-spelled segments rest few can.1)
 
--- a record's body spells it
-pub record_of-body : (r : Record) → IsSpellable r.entry → IsFormed r.entry r.bytes → record_of (body_of r) ≡ Some r
-record_of-body r = at r.entry r.bytes
-  where
-    at : (e : Entry) (bytes : List ℕ) → IsSpellable e → IsFormed e bytes → record_of (spelled_entry e ++ bytes) ≡ Some (record { entry = e; bytes = bytes })
-    at (entry.Settings lines) bytes can formed = rw (formed.1, append-nil (strings lines), settings-spelled lines formed.0) refl
-    at (entry.BackupSealed image segments) bytes can formed = rw (formed.2, backup-spelled image segments [] can formed.1 formed.0) refl
-    at (entry.CopySealed id copy completed segments) bytes can formed = rw (formed.1, copy-spelled id copy completed segments [] can formed.0) refl
-    at (entry.WholeImage image) bytes can formed = rw (image-spelled image bytes can formed.1) (chosen image.length (length bytes) _ None formed.0)
-
-pub whole_image_read : (body rest bytes : List ℕ) (image : WholeImage) → byte_field body ≡ Some (7, rest) → whole_image_field rest ≡ Some (image, bytes) → image.length ≡ length bytes
-    → record_of body ≡ Some (record { entry = entry.WholeImage image; bytes = bytes })
-whole_image_read body rest bytes image kind fields long =
-    rw (kind, fields) (chosen image.length (length bytes) _ None long)
+-- a body spells its entry
+pub entry_of-spelled : (e : Entry) → IsSpellable e → IsFormed e → entry_of (spelled_entry e) ≡ Some e
+entry_of-spelled (entry.Settings lines) can formed = rw (settings-spelled lines formed) refl
+entry_of-spelled (entry.BackupSealed image segments) can formed =
+    ap (option_and_then (alone backup_entry)) (ap backup_field (sym (append-nil (spelled_image image ++ spelled_segments segments))) ∙ backup-spelled image segments [] can formed.1 formed.0)
+entry_of-spelled (entry.CopySealed id copy completed segments) can formed =
+    ap (option_and_then (alone copy_entry)) (ap stored_copy_field (sym (append-nil (spelled_id id ++ spelled_copy copy completed ++ spelled_segments segments))) ∙ copy-spelled id copy completed segments [] can formed)

@@ -1,5 +1,5 @@
 -- How many bytes a record adds to a journal and to its file.
-use Rattle.pool_journal.proofs.Common.{◌≡◌, ℕ, ◌+◌, ◌*◌, ◌≤◌, List, [], ◌∷◌, ◌++◌, length, refl, Ok, ap, arith, length-append, nat_tests, WroteDurably, Entry, Record, body_of, spelled_entry, spelled_id, spelled_image, spelled_copy, IsFormed, IsSpellable, NewSegment, SegmentFits, Segments, spelled_segment, spelled_segments, WholeImage, Found, AtRest, header, spelled}
+use Rattle.pool_journal.proofs.Common.{◌≡◌, ℕ, ◌+◌, ◌*◌, ◌≤◌, List, [], ◌∷◌, ◌++◌, length, refl, Ok, ap, arith, length-append, nat_tests, WroteDurably, Entry, spelled_entry, spelled_id, spelled_image, spelled_copy, IsSpellable, NewSegment, SegmentFits, Segments, spelled_segment, spelled_segments, WholeImage, Found, AtRest, header, spelled}
 use Rattle.std.specs.Prelude.{All, flat_map}
 use Rattle.std.proofs.lemmas.List.Elements.{All-head, All-tail}
 use Rattle.site_types.specs.declared.id.BackupId.{BackupId}
@@ -33,18 +33,15 @@ short_fields (entry.Settings lines) can = tt
 short_fields (entry.BackupSealed image segments) can = omega (arith, image_short image can.0, segments_taken segments can.1.0, length-append (spelled_image image) (spelled_segments segments))
 short_fields (entry.CopySealed id copy completed segments) can =
     omega (arith, id_short id can.0.named, segments_taken segments can.1.0, length-append (spelled_id id) (spelled_copy copy completed), length-append (spelled_id id ++ spelled_copy copy completed) (spelled_segments segments))
-short_fields (entry.WholeImage image) can = omega (arith, image_short image can)
 
 -- what grew by at most a staged record
-pub grows : (r : Record) (bytes : List ℕ) (old new : ℕ) → IsStaged r bytes → new ≤ old + length bytes → Grows r.entry old new
-grows r bytes old new staged le =
-    at r.entry r.bytes staged.writable.1 (short_fields r.entry staged.spellable) (omega (arith, le, ap length staged.is, length_staged (body_of r), length-append (spelled_entry r.entry) r.bytes))
+pub grows : (e : Entry) (bytes : List ℕ) (old new : ℕ) → IsStaged e bytes → new ≤ old + length bytes → Grows e old new
+grows e bytes old new staged le = at e (short_fields e staged.spellable) (omega (arith, le, ap length staged.is, length_staged (spelled_entry e)))
   where
-    at : (e : Entry) (more : List ℕ) → IsFormed e more → HasShortFields e → new ≤ old + 5 + length (spelled_entry e) + length more → Grows e old new
-    at (entry.Settings lines) more formed short most = tt
-    at (entry.BackupSealed image segments) more formed short most = λ few. omega (arith, ap length formed.2, short, most, few)
-    at (entry.CopySealed id copy completed segments) more formed short most = λ few. omega (arith, ap length formed.1, short, most, few)
-    at (entry.WholeImage image) more formed short most = tt
+    at : (e : Entry) → HasShortFields e → new ≤ old + 5 + length (spelled_entry e) → Grows e old new
+    at (entry.Settings lines) short most = tt
+    at (entry.BackupSealed image segments) short most = λ few. omega (arith, short, most, few)
+    at (entry.CopySealed id copy completed segments) short most = λ few. omega (arith, short, most, few)
 
 -- the two writes of an append lengthen the file by at most what is staged
 pub file_grew : {T E : Type 0} (fs : List Found) (end at at' : ℕ) (bytes text : List ℕ) (old mid now : Disk) (v w : T) → AtRest old end fs → at ≡ end + 1 → at' ≡ end → bytes ≡ text → WroteDurably {T = T} {E = E} 0 at bytes old mid (Ok v)

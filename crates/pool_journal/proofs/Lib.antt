@@ -8,6 +8,4 @@ pub mod Reading
 pub mod Append
 pub mod Growth
 pub mod Opening
-pub mod Suffixes
-pub mod ImageBytes
 pub mod Rows

@@ -1,5 +1,5 @@
 -- Reading a journal's records one by one.
-use Rattle.pool_journal.proofs.Common.{◌≡◌, ◌≢◌, ℕ, suc, ◌+◌, ◌-◌, ◌<◌, ◌^◌, List, [], ◌∷◌, ◌++◌, length, take, drop, get_or, true, refl, sym, ◌∙◌, ap, arith, length-append, Some, None, nat_eq, nat_lt, starts_with, Decides-eqb, from_be_bytes-to_be_bytes_4, w32, to_be_bytes, from_be_bytes, take_all, map-append, cond_both, record_of, header, Found, broken, records, reading, placed, placed_of, spelled, AllSmall, Spell, Holds, IsToldOf, Placed}
+use Rattle.pool_journal.proofs.Common.{◌≡◌, ◌≢◌, ℕ, suc, ◌+◌, ◌-◌, ◌<◌, ◌^◌, List, [], ◌∷◌, ◌++◌, length, take, drop, get_or, true, refl, sym, ◌∙◌, ap, arith, length-append, Some, None, nat_eq, nat_lt, starts_with, Decides-eqb, from_be_bytes-to_be_bytes_4, w32, to_be_bytes, from_be_bytes, take_all, map-append, cond_both, entry_of, header, Found, broken, records, reading, placed, placed_of, spelled, AllSmall, Spell, Holds, IsToldOf, Placed}
 use Rattle.std.proofs.lemmas.List.{take_at}
 use Rattle.std.proofs.lemmas.Slice.Eq.{starts_is}
 use Rattle.pool_journal.proofs.Bytes.{AtRecord, reads, broken_at, spelled-one, Spell-push}
@@ -35,14 +35,14 @@ pub cut_short : (rest : List ℕ) → 0 < length rest → get_or rest 0 0 ≡ 16
 cut_short rest some open_gate none n at = ap (λ (l : List ℕ). records (suc n) at l) (cons_of rest 165 some open_gate) ∙ none n at
 
 -- a record at an open gate whose body spells none
-none_of : (n at size : ℕ) (after : List ℕ) → record_of (take size (drop 4 after)) ≡ None → AtRecord n at size after ≡ broken [] at
+none_of : (n at size : ℕ) (after : List ℕ) → entry_of (take size (drop 4 after)) ≡ None → AtRecord n at size after ≡ broken [] at
 none_of n at size after none = rw none (cond_both (nat_lt (4 + size) (length after)) (broken [] at) (broken [] at) (λ r. r ≡ broken [] at) (λ long. refl) (λ short. refl))
 
-pub spells_none : (rest after body next : List ℕ) → rest ≡ 165 ∷ after → after ≡ to_be_bytes w32 (length body) ++ body ++ next → length body < 2 ^ 32 → record_of body ≡ None → (n at : ℕ) → records (suc n) at rest ≡ broken [] at
+pub spells_none : (rest after body next : List ℕ) → rest ≡ 165 ∷ after → after ≡ to_be_bytes w32 (length body) ++ body ++ next → length body < 2 ^ 32 → entry_of body ≡ None → (n at : ℕ) → records (suc n) at rest ≡ broken [] at
 spells_none rest after body next rest_is after_is fits none n at =
     let whole : List ℕ = to_be_bytes w32 (length body) ++ body ++ next in
     let size : from_be_bytes w32 (take 4 whole) ≡ length body = from_be_bytes-to_be_bytes_4 (length body) fits in
-    let here : AtRecord n at (length body) whole ≡ broken [] at = none_of n at (length body) whole (ap record_of (take_at body next (length body) refl) ∙ none) in
+    let here : AtRecord n at (length body) whole ≡ broken [] at = none_of n at (length body) whole (ap entry_of (take_at body next (length body) refl) ∙ none) in
     rw (rest_is, after_is, size) here
 
 -- one record more was read
@@ -52,11 +52,11 @@ one_more bytes bodies body rest after next is rest_is after_is =
     is ∙ ap (λ (l : List ℕ). header ++ spelled bodies ++ l) (rest_is ∙ ap (λ (l : List ℕ). 165 ∷ l) after_is)
     ∙ ap (λ (l : List ℕ). header ++ l) (sym (spelled-one bodies body next))
 
-pub one_more_spelled : (bytes : List ℕ) (bodies : List (List ℕ)) (fs : List Found) (body rest : List ℕ) (f : Found) (size : ℕ) → bytes ≡ header ++ spelled bodies ++ rest → Spell 16 bodies fs → f.at ≡ length bytes - length rest → f.from ≡ f.at + 5 + size
-    → size + length f.is.bytes ≡ length body → record_of body ≡ Some f.is → Spell 16 (bodies ++ body ∷ []) (fs ++ f ∷ [])
-one_more_spelled bytes bodies fs body rest f size is spell at_is from_is size_is spells =
+pub one_more_spelled : (bytes : List ℕ) (bodies : List (List ℕ)) (fs : List Found) (body rest : List ℕ) (f : Found) → bytes ≡ header ++ spelled bodies ++ rest → Spell 16 bodies fs → f.at ≡ length bytes - length rest → entry_of body ≡ Some f.is
+    → Spell 16 (bodies ++ body ∷ []) (fs ++ f ∷ [])
+one_more_spelled bytes bodies fs body rest f is spell at_is spells =
     let place : f.at ≡ 16 + length (spelled bodies) = omega (arith, at_is, ap length is, length-append (header ++ spelled bodies) rest) in
-    Spell-push 16 bodies fs body f spell place (omega (arith, from_is, size_is)) spells
+    Spell-push 16 bodies fs body f spell place spells
 
 pub one_more_placed : (fs : List Found) (f : Found) (entries entries' : List Placed) (p : Placed) → entries ≡ placed fs → entries' ≡ entries ++ p ∷ [] → p ≡ placed_of f → entries' ≡ placed (fs ++ f ∷ [])
 one_more_placed fs f entries entries' p are pushed is = pushed ∙ (λ i. are i ++ is i ∷ []) ∙ sym (map-append placed_of fs (f ∷ []))

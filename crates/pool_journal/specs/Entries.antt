@@ -6,18 +6,12 @@ pub use Rattle.site_types.specs.declared.id.BackupId.{BackupId}
 use Rattle.pool_journal.specs.Fields.{string, strings, kind_code, base_code, Field, byte_field, short_field, long_field, string_field, counted_field, name_field, kind_field, base_field, both, Kind, Base, FieldFault, Broken, NoMemory}
 pub use Rattle.pool_journal.specs.declared.entry.Entry.{Entry}
 pub use Rattle.pool_journal.specs.declared.entry.WholeImage.{WholeImage}
-use Rattle.pool_journal.specs.declared.entry.Parsed.{Parsed}
 pub use Rattle.pool_journal.specs.declared.segments.Segments.{Segments}
 use Rattle.pool_journal.specs.Segments.{spelled_segments, segments_field, taken_by, AreCounted, GrowsFor, SegmentsFit}
 use Rattle.site_types.specs.declared.image.Base.TheVariants as base
 use Rattle.pool_journal.specs.declared.entry.Entry.TheVariants as entry
 
--- a record: an entry, and for a whole image its bytes; behind the others there are none
-pub record Record : Type 0 where
-  pub entry : Entry
-  pub bytes : List ℕ
-
--- how an entry is spelled: its kind, and its fields
+-- how an entry is spelled, which is the body of its record: its kind, and its fields
 abbrev pub spelled_id : BackupId → List ℕ
 spelled_id id = string id.client ++ to_be_bytes w64 id.time
 
@@ -49,11 +43,6 @@ abbrev pub spelled_entry : Entry → List ℕ
 spelled_entry (entry.Settings lines) = 1 ∷ spelled_settings lines
 spelled_entry (entry.BackupSealed image segments) = 2 ∷ spelled_image image ++ spelled_segments segments
 spelled_entry (entry.CopySealed id copy completed segments) = 3 ∷ spelled_id id ++ spelled_copy copy completed ++ spelled_segments segments
-spelled_entry (entry.WholeImage image) = 7 ∷ spelled_image image
-
--- the body of a record
-abbrev pub body_of : Record → List ℕ
-body_of r = spelled_entry r.entry ++ r.bytes
 
 -- what stands behind the gate of a record with this body, with the closed gate of the next
 abbrev pub staged_record : List ℕ → List ℕ
@@ -119,25 +108,20 @@ abbrev pub copy_entry : (BackupId × (ℕ × ℕ)) × Segments → Entry
 copy_entry p = entry.CopySealed p.0.0 p.0.1.0 p.0.1.1 p.1
 
 -- an entry behind which nothing stands
-abbrev pub alone : {A : Type 0} → (A → Entry) → A × List ℕ → Option Record
-alone made (fields, []) = Some (record { entry = made fields; bytes = [] })
+abbrev pub alone : {A : Type 0} → (A → Entry) → A × List ℕ → Option Entry
+alone made (fields, []) = Some (made fields)
 alone made (fields, byte ∷ bytes) = None
 
--- a whole image's bytes stand behind its fields, as many as they say
-abbrev pub with_bytes : WholeImage × List ℕ → Option Record
-with_bytes (image, bytes) = if image.length == length bytes then Some (record { entry = entry.WholeImage image; bytes = bytes }) else None
-
-abbrev pub of_kind : ℕ × List ℕ → Option Record
+abbrev pub of_kind : ℕ × List ℕ → Option Entry
 of_kind (kind, rest) =
     if kind == 1 then option_and_then (alone entry.Settings) (settings_field rest)
     else (if kind == 2 then option_and_then (alone backup_entry) (backup_field rest)
     else (if kind == 3 then option_and_then (alone copy_entry) (stored_copy_field rest)
-    else (if kind == 7 then option_and_then with_bytes (whole_image_field rest)
-    else None)))
+    else None))
 
--- the record that a body spells, where it spells one
-abbrev pub record_of : List ℕ → Option Record
-record_of body = option_and_then of_kind (byte_field body)
+-- the entry that a record's body spells, where it spells one
+abbrev pub entry_of : List ℕ → Option Entry
+entry_of body = option_and_then of_kind (byte_field body)
 
 -- lines whose lengths fit into two bytes, and their number into four
 abbrev pub AllShort : List (List ℕ) → Type 0
@@ -147,28 +131,27 @@ AllShort (line ∷ lines) = (length line < 2 ^ 16) × AllShort lines
 abbrev pub AreLines : List (List ℕ) → Type 0
 AreLines lines = (length lines < 2 ^ 32) × AllShort lines
 
--- An entry that can be spelled. Of settings the lines are short, and of segments the numbers fit into four bytes; of a whole image the number of its bytes is right, and nothing stands behind the others. A base is no moment 0, which spells none.
-abbrev pub IsFormed : Entry → List ℕ → Type 0
-IsFormed (entry.Settings lines) bytes = AreLines lines × (bytes ≡ [])
-IsFormed (entry.BackupSealed image segments) bytes = AreCounted segments × (image.base ≢ base.Time 0) × (bytes ≡ [])
-IsFormed (entry.CopySealed id copy completed segments) bytes = AreCounted segments × (bytes ≡ [])
-IsFormed (entry.WholeImage image) bytes = (image.length ≡ length bytes) × (image.base ≢ base.Time 0)
+-- An entry that can be spelled. Of settings the lines are short, and of segments the numbers fit into four bytes. A base is no moment 0, which spells none.
+abbrev pub IsFormed : Entry → Type 0
+IsFormed (entry.Settings lines) = AreLines lines
+IsFormed (entry.BackupSealed image segments) = AreCounted segments × (image.base ≢ base.Time 0)
+IsFormed (entry.CopySealed id copy completed segments) = AreCounted segments
 
--- a record that can be written
-abbrev pub IsWritable : Record → Type 0
-IsWritable r = (length (body_of r) < 2 ^ 32) × IsFormed r.entry r.bytes
+-- an entry whose record can be written
+abbrev pub IsWritable : Entry → Type 0
+IsWritable e = (length (spelled_entry e) < 2 ^ 32) × IsFormed e
 
--- an entry was read: that of the record that the body spells, with the size of what stands before the record's bytes, and their number
-abbrev pub IsEntry : Result Parsed FieldFault → List ℕ → Type 0
-IsEntry (Ok p) body = (bytes : List ℕ) × (record_of body ≡ Some (record { entry = p.entry; bytes = bytes })) × (p.size + length bytes ≡ length body) × (p.left ≡ length bytes)
-IsEntry (Err (Broken left)) body = record_of body ≡ None
+-- an entry was read: the one that the body spells
+abbrev pub IsEntry : Result Entry FieldFault → List ℕ → Type 0
+IsEntry (Ok e) body = entry_of body ≡ Some e
+IsEntry (Err (Broken left)) body = entry_of body ≡ None
 IsEntry (Err NoMemory) body = Unit {0}
 
--- an entry behind which this stands in a body of this size was taken as one behind which nothing may stand
-abbrev pub IsAlone : Result Parsed FieldFault → Entry → List ℕ → ℕ → Type 0
-IsAlone (Ok p) e rest size = (rest ≡ []) × (p ≡ record { entry = e; size = size; left = 0 })
-IsAlone (Err (Broken left)) e rest size = rest ≢ []
-IsAlone (Err NoMemory) e rest size = ⊥
+-- an entry behind which this stands was taken as one behind which nothing may stand
+abbrev pub IsAlone : Result Entry FieldFault → Entry → List ℕ → Type 0
+IsAlone (Ok taken) e rest = (rest ≡ []) × (taken ≡ e)
+IsAlone (Err (Broken left)) e rest = rest ≢ []
+IsAlone (Err NoMemory) e rest = ⊥
 
 -- the fields of an entry have the ranges of their types: names are names, and numbers fit
 abbrev pub IsNamed : List ℕ → Type 0
@@ -197,24 +180,21 @@ abbrev pub IsSpellable : Entry → Type 0
 IsSpellable (entry.Settings lines) = Unit {0}
 IsSpellable (entry.BackupSealed image segments) = ImageFits image × SegmentsFit segments
 IsSpellable (entry.CopySealed id copy completed segments) = CopyFits id copy completed × SegmentsFit segments
-IsSpellable (entry.WholeImage image) = ImageFits image
 
 -- The fields of an entry are short. With the kind their numbers and lengths take 44 bytes in an image and 20 in a copy; an image has four names and a copy one, of at most 64 bytes each. The segments stand behind them.
 abbrev pub HasShortFields : Entry → Type 0
 HasShortFields (entry.Settings lines) = Unit {0}
 HasShortFields (entry.BackupSealed image segments) = length (spelled_entry (entry.BackupSealed image segments)) ≤ 300 + taken_by segments
 HasShortFields (entry.CopySealed id copy completed segments) = length (spelled_entry (entry.CopySealed id copy completed segments)) ≤ 84 + taken_by segments
-HasShortFields (entry.WholeImage image) = length (spelled_entry (entry.WholeImage image)) ≤ 300
 
 -- a length grew for this entry by no more than it may; of the entries without segments nothing is said
 abbrev pub Grows : Entry → ℕ → ℕ → Type 0
 Grows (entry.Settings lines) old new = Unit {0}
 Grows (entry.BackupSealed image segments) old new = GrowsFor segments old new
 Grows (entry.CopySealed id copy completed segments) old new = GrowsFor segments old new
-Grows (entry.WholeImage image) old new = Unit {0}
 
--- these bytes are a record's that can be written, and that is read as it is spelled
-pub record IsStaged (r : Record) (bytes : List ℕ) : Type 0 where
-  pub writable : IsWritable r
-  pub spellable : IsSpellable r.entry
-  pub is : bytes ≡ staged_record (body_of r)
+-- these bytes are the record of an entry that can be written, and that is read as it is spelled
+pub record IsStaged (e : Entry) (bytes : List ℕ) : Type 0 where
+  pub writable : IsWritable e
+  pub spellable : IsSpellable e
+  pub is : bytes ≡ staged_record (spelled_entry e)

@@ -1,18 +1,17 @@
 -- A journal: a header, and records behind gates. A record counts while each gate so far is open.
-use Rattle.std.specs.Prelude.{◌≡◌, ◌≢◌, ℕ, suc, zero, ◌+◌, ◌-◌, ◌<◌, ◌^◌, nat_eq, nat_lt, nat_le, ◌==◌, if◌then◌else◌, List, [], ◌∷◌, ◌++◌, length, take, drop, map, codes, Option, Some, None}
+use Rattle.std.specs.Prelude.{◌≡◌, ◌≢◌, ℕ, suc, zero, ◌+◌, ◌<◌, ◌^◌, nat_eq, nat_lt, nat_le, ◌==◌, if◌then◌else◌, List, [], ◌∷◌, ◌++◌, length, take, drop, map, codes, Option, Some, None}
 use Rattle.std.specs.List.{starts_with, common_prefix_len}
 use Rattle.std.specs.Int.{w32, to_be_bytes, from_be_bytes}
-use Rattle.pool_journal.specs.Entries.{Record, record_of}
+use Rattle.pool_journal.specs.Entries.{Entry, entry_of}
 pub use Rattle.pool_journal.specs.declared.records.Placed.{Placed}
 
 abbrev pub header : List ℕ
 header = codes "NBDESK VAULT 001"
 
--- a record that was read, with the offset of its gate, and the offset at which the bytes of its image begin
+-- a record that was read: the offset of its gate, and its entry
 pub record Found : Type 0 where
   pub at : ℕ
-  pub from : ℕ
-  pub is : Record
+  pub is : Entry
 
 -- what a journal's bytes are read as: its records; its records before one at this offset that is broken; or no journal at all, since it differs from the header at this offset
 pub data Reading : Type 0 where
@@ -25,13 +24,9 @@ behind f (found fs) = found (f ∷ fs)
 behind f (broken fs at) = broken (f ∷ fs) at
 behind f (foreign at) = foreign at
 
--- where the bytes of a record's image begin: they end its body, which has this size and stands behind the gate at this offset and its length
-abbrev pub bytes_from : ℕ → ℕ → Record → ℕ
-bytes_from at size r = at + 5 + (size - length r.bytes)
-
-abbrev pub with_record : ℕ → ℕ → Option Record → Reading → Reading
-with_record at size None next = broken [] at
-with_record at size (Some r) next = behind (record { at = at; from = bytes_from at size r; is = r }) next
+abbrev pub with_record : ℕ → Option Entry → Reading → Reading
+with_record at None next = broken [] at
+with_record at (Some e) next = behind (record { at = at; is = e }) next
 
 -- from a gate at this offset on; a record is broken where it or the byte of its next gate isn't all there, or its body spells none
 abbrev pub records : ℕ → ℕ → List ℕ → Reading
@@ -40,7 +35,7 @@ records (suc n) at [] = broken [] at
 records (suc n) at (gate ∷ rest) =
     if gate == 165
     then (if nat_lt (4 + from_be_bytes w32 (take 4 rest)) (length rest)
-    then with_record at (from_be_bytes w32 (take 4 rest)) (record_of (take (from_be_bytes w32 (take 4 rest)) (drop 4 rest))) (records n (at + 5 + from_be_bytes w32 (take 4 rest)) (drop (4 + from_be_bytes w32 (take 4 rest)) rest))
+    then with_record at (entry_of (take (from_be_bytes w32 (take 4 rest)) (drop 4 rest))) (records n (at + 5 + from_be_bytes w32 (take 4 rest)) (drop (4 + from_be_bytes w32 (take 4 rest)) rest))
     else broken [] at)
     else found []
 
@@ -50,7 +45,7 @@ reading bytes = if nat_le (length bytes) 17 then found [] else (if starts_with n
 
 -- what an opening hands on of the records that were read
 abbrev pub placed_of : Found → Placed
-placed_of f = record { at = f.at; from = f.from; size = length f.is.bytes; entry = f.is.entry }
+placed_of f = record { at = f.at; entry = f.is }
 
 abbrev pub placed : List Found → List Placed
 placed fs = map placed_of fs
@@ -69,7 +64,7 @@ abbrev pub Spell : ℕ → List (List ℕ) → List Found → Type 0
 Spell at [] [] = Unit {0}
 Spell at [] (f ∷ fs) = ⊥
 Spell at (body ∷ bodies) [] = ⊥
-Spell at (body ∷ bodies) (f ∷ fs) = (f.at ≡ at) × (f.from ≡ bytes_from at (length body) f.is) × (record_of body ≡ Some f.is) × Spell (at + 5 + length body) bodies fs
+Spell at (body ∷ bodies) (f ∷ fs) = (f.at ≡ at) × (entry_of body ≡ Some f.is) × Spell (at + 5 + length body) bodies fs
 
 -- these bytes are a journal of these records and a closed gate at this offset, with anything behind it
 pub record Holds (bytes : List ℕ) (fs : List Found) (end : ℕ) : Type 0 where

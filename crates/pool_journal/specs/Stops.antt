@@ -1,8 +1,8 @@
 -- What the calls of a journal leave on the disk, and what a stop in them does.
-use Rattle.std.specs.Prelude.{◌≡◌, ◌≢◌, ◌⊎◌, ℕ, ◌+◌, ◌≤◌, ◌<◌, ◌^◌, List, [], ◌∷◌, ◌++◌, length, Option, Some, None, Result, OnOk}
+use Rattle.std.specs.Prelude.{◌≡◌, ◌≢◌, ◌⊎◌, ℕ, ◌≤◌, ◌<◌, ◌^◌, List, [], ◌∷◌, ◌++◌, length, Option, Some, None, Result, OnOk}
 use Rattle.vault_disk.specs.Disk.{Disk, Image, During}
 use Rattle.vault_disk.specs.Steps.{IsDurable}
-use Rattle.pool_journal.specs.Entries.{Record, spelled_entry}
+use Rattle.pool_journal.specs.Entries.{Entry}
 use Rattle.pool_journal.specs.Records.{Found, Reading, found, broken, foreign, reading, placed, Holds, Placed}
 use Rattle.pool_journal.specs.declared.fault.JournalFault.{JournalFault}
 use Rattle.pool_journal.specs.declared.fault.JournalFault.TheVariants.{NoMemory, DiskFault, NotAVault}
@@ -15,12 +15,12 @@ pub record AtRest (disk : Disk) (end : ℕ) (fs : List Found) : Type 0 where
   pub short : end < 2 ^ 63
 
 -- the records of a journal with one more behind them
-abbrev pub with_one : List Found → ℕ → Record → List Found
-with_one fs end r = fs ++ record { at = end; from = end + 5 + length (spelled_entry r.entry); is = r } ∷ []
+abbrev pub with_one : List Found → ℕ → Entry → List Found
+with_one fs end e = fs ++ record { at = end; is = e } ∷ []
 
 -- the journal's records, with one more or without it
-abbrev pub IsBeforeOrAfter : List Found → ℕ → Record → List ℕ → Type 0
-IsBeforeOrAfter fs end r bytes = (reading bytes ≡ found fs) ⊎ (reading bytes ≡ found (with_one fs end r))
+abbrev pub IsBeforeOrAfter : List Found → ℕ → Entry → List ℕ → Type 0
+IsBeforeOrAfter fs end e bytes = (reading bytes ≡ found fs) ⊎ (reading bytes ≡ found (with_one fs end e))
 
 -- an image that a stop could leave before, but for file 0, of which P holds
 pub record FromBefore (old : Disk) (P : List ℕ → Type 0) (c : Image) : Type 0 where
@@ -30,18 +30,18 @@ pub record FromBefore (old : Disk) (P : List ℕ → Type 0) (c : Image) : Type 
   pub inside : P (c 0)
 
 -- what a stop in an append leaves
-abbrev pub Appending : List Found → ℕ → Record → Disk → Image → List ℕ → Type 0
-Appending fs end r old c b = FromBefore old (IsBeforeOrAfter fs end r) c × (b ≡ old.sent)
+abbrev pub Appending : List Found → ℕ → Entry → Disk → Image → List ℕ → Type 0
+Appending fs end e old c b = FromBefore old (IsBeforeOrAfter fs end e) c × (b ≡ old.sent)
 
 -- a record was added to a journal of these
-pub record Appended (fs : List Found) (at : ℕ) (r : Record) (old new : Disk) (end : ℕ) : Type 0 where
-  pub rest : AtRest new end (with_one fs at r)
+pub record Appended (fs : List Found) (at : ℕ) (e : Entry) (old new : Disk) (end : ℕ) : Type 0 where
+  pub rest : AtRest new end (with_one fs at e)
   pub others : (g : ℕ) → g ≢ 0 → new.seen g ≡ old.seen g
 
 -- each stop in an append, and each after it, leaves the records with the new one or without
-pub record Stops (fs : List Found) (at : ℕ) (r : Record) (old new : Disk) : Type 0 where
-  pub left : (c : Image) → new.may_leave c → FromBefore old (IsBeforeOrAfter fs at r) c
-  pub during : During old new (Appending fs at r old)
+pub record Stops (fs : List Found) (at : ℕ) (e : Entry) (old new : Disk) : Type 0 where
+  pub left : (c : Image) → new.may_leave c → FromBefore old (IsBeforeOrAfter fs at e) c
+  pub during : During old new (Appending fs at e old)
 
 -- file 0 reads the same, and the others are as a stop could leave them before
 abbrev pub SameReading : Disk → Image → Type 0
@@ -85,7 +85,7 @@ IsForeign r NoMemory = Unit {0}
 IsForeign r DiskFault = Unit {0}
 IsForeign r (NotAVault offset) = r ≡ foreign offset
 
--- the faults of an append, and of a read of an image's bytes
+-- the faults of an append
 abbrev pub IsOfAppend : JournalFault → Type 0
 IsOfAppend NoMemory = Unit {0}
 IsOfAppend DiskFault = Unit {0}

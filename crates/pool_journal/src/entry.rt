@@ -30,8 +30,6 @@ pub enum Entry {
         completed: u64,
         segments: Segments,
     },
-    /// An image was sealed, and its bytes stand in the record behind these fields.
-    WholeImage(WholeImage),
 }
 
 /// An image that was sealed. Moments are seconds since 1970-01-01T00:00:00Z.
@@ -96,7 +94,6 @@ fn read_settings(fields: &mut Fields, alloc: Global) -> Result<ListOf<Text>, Fie
     read_strings(fields, alloc, count)
 }
 
-// The fields of a whole image, behind the kind and before its bytes.
 fn read_whole_image(fields: &mut Fields, alloc: Global) -> Result<WholeImage, FieldFault>
     ensures { IsField result (whole_image_field fields.old) fields.new }
 {
@@ -153,43 +150,29 @@ fn read_stored_copy(
     Ok((copy, segments))
 }
 
-/// An entry that was read.
-#[derive(Drop)]
-pub struct Parsed {
-    pub entry: Entry,
-    /// The bytes of the body that it took, and those that are left.
-    pub size: usize,
-    pub left: usize,
-}
-
-// An entry behind which nothing may stand in its record's body, which has this size.
-fn alone(entry: Entry, rest: &[u8], size: usize) -> Result<Parsed, FieldFault>
-    ensures { IsAlone result entry rest.now size }
+// An entry behind which nothing may stand in its record's body.
+fn alone(entry: Entry, rest: &[u8]) -> Result<Entry, FieldFault>
+    ensures { IsAlone result entry rest.now }
 {
     if !rest.is_empty() {
         return Err(FieldFault::Broken(rest.len()));
     }
-    Ok(Parsed {
-        entry,
-        size,
-        left: 0,
-    })
+    Ok(entry)
 }
 
 /// The entry that a record's body spells.
-pub fn read_entry(alloc: Global, body: &[u8]) -> Result<Parsed, FieldFault>
+pub fn read_entry(alloc: Global, body: &[u8]) -> Result<Entry, FieldFault>
     ensures { IsEntry result body.now }
 {
     let mut fields = Fields::new(body);
     match fields.byte()? {
         1 => {
             let lines = read_settings(&mut fields, alloc)?;
-            alone(Entry::Settings { lines }, fields.rest(), body.len())
+            alone(Entry::Settings { lines }, fields.rest())
         }
         2 => {
             let (image, segments) = read_backup(&mut fields, alloc)?;
-            let entry = Entry::BackupSealed { image, segments };
-            alone(entry, fields.rest(), body.len())
+            alone(Entry::BackupSealed { image, segments }, fields.rest())
         }
         3 => {
             let ((id, (copy, completed)), segments) = read_stored_copy(&mut fields, alloc)?;
@@ -199,19 +182,7 @@ pub fn read_entry(alloc: Global, body: &[u8]) -> Result<Parsed, FieldFault>
                 completed,
                 segments,
             };
-            alone(entry, fields.rest(), body.len())
-        }
-        7 => {
-            let image = read_whole_image(&mut fields, alloc)?;
-            let rest = fields.rest().len();
-            if image.length != rest as u64 {
-                return Err(FieldFault::Broken(rest));
-            }
-            Ok(Parsed {
-                entry: Entry::WholeImage(image),
-                size: body.len() - rest,
-                left: rest,
-            })
+            alone(entry, fields.rest())
         }
         _ => Err(FieldFault::Broken(body.len())),
     }

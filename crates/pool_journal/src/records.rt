@@ -13,14 +13,10 @@ pub const OPEN: u8 = 165;
 
 pub const HEADER: [u8; 16] = *b"NBDESK VAULT 001";
 
-/// An entry without its image's bytes, which are read back where they are wanted: with the offsets of its record's gate and of its image's bytes, and how many bytes those are.
+/// An entry, with the offset of its record's gate.
 #[derive(Debug, Drop)]
 pub struct Placed {
-    /// The offset of the record's gate.
     pub at: u64,
-    /// The offset of the image's bytes, and their number.
-    pub from: u64,
-    pub size: u64,
     pub entry: Entry,
 }
 
@@ -74,12 +70,7 @@ pub fn read_records(alloc: Global, bytes: &[u8]) -> Result<Records, JournalFault
             });
         };
         match read_entry(alloc, body) {
-            Ok(parsed) => entries.push(Placed {
-                at,
-                from: at + 5 + parsed.size as u64,
-                size: parsed.left as u64,
-                entry: parsed.entry,
-            })?,
+            Ok(entry) => entries.push(Placed { at, entry })?,
             Err(FieldFault::Broken(_)) => {
                 return Ok(Records {
                     entries,

@@ -7,7 +7,7 @@ use crate::entry::{Entry, WholeImage};
 use crate::segments::segments_size;
 use site_types::{BackupId, Text};
 
-// The kind, the numbers of a whole image, and the lengths of its names.
+// The kind, the numbers of an image, and the lengths of its names.
 const WITHOUT_NAMES: u64 = 44;
 
 fn image_size(image: &WholeImage) -> u64
@@ -42,8 +42,8 @@ fn strings_size(texts: &[Text]) -> u64
 }
 
 impl Entry {
-    /// The number of bytes that it takes in a record, before the bytes of a whole image. A whole image takes at most 300, a backup
-    /// in segments 308, and a copy in segments 92: these two with 40 more for each new segment and 4 more for each piece.
+    /// The number of bytes that it takes in a record. A backup takes at most 308 and a copy 92, with 40 more for each new segment
+    /// and 4 more for each piece.
     pub fn size(&self) -> u64
         ensures size { length (spelled_entry self.now) < 2 ^ 64 → result ≡ length (spelled_entry self.now) }
         ensures short { HasShortFields self.now }
@@ -56,7 +56,6 @@ impl Entry {
             Entry::CopySealed { id, segments, .. } => {
                 segments_size(segments).saturating_add(copy_size(id))
             }
-            Entry::WholeImage(image) => image_size(image),
         }
     }
 }

@@ -141,7 +141,7 @@ fn push_copy(out: &mut Room, id: &BackupId, copy: u8, completed: u64)
 }
 
 pub fn push_entry(out: &mut Room, entry: &Entry)
-    requires formed { (bytes : List ℕ) × IsFormed entry.now bytes }
+    requires formed { IsFormed entry.now }
     requires room { Fits out.old (spelled_entry entry.now) }
     ensures spelled { Gets (spelled_entry entry.now) out.old out.new }
     ensures fits { IsSpellable entry.now }
@@ -165,10 +165,6 @@ pub fn push_entry(out: &mut Room, entry: &Entry)
             out.push(&[3]);
             push_copy(out, id, *copy, *completed);
             push_segments(out, segments);
-        }
-        Entry::WholeImage(image) => {
-            out.push(&[7]);
-            push_image(out, image);
         }
     }
 }

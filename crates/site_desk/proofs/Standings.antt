@@ -1,91 +1,71 @@
--- What the journal's promises say of the desk's state.
-use Rattle.std.proofs.Common.{◌≡◌, ◌⊎◌, inl, inr, ⊎_elim, ℕ, List, [], ◌∷◌, Some, None, Ok, refl, sym, ◌∙◌, ap, subst}
-use Rattle.std.specs.Prelude.{Option}
-use Rattle.std.specs.Result.{result_ok}
+-- What a known ledger says of the state of a desk, and of what a stop leaves.
+use Rattle.std.proofs.Common.{◌≡◌, ◌∙◌, ◌⊎◌, inl, inr, ℕ, Some, Result, sym, ap}
 use Rattle.vault_disk.specs.Disk.{Disk, Image as DiskImage}
-use Rattle.vault_disk.specs.Steps.{Rests}
-use Rattle.vault_disk.proofs.Moments.{weaker, started}
-use Rattle.pool_journal.specs.Entries.{Record}
-use Rattle.pool_journal.specs.Records.{Found, Reading, found, reading, Holds}
-use Rattle.pool_journal.specs.Stops.{FromBefore, with_one, IsBeforeOrAfter, Stops, Appending, Appended, Leaves, OpenStops, SameReading}
-use Rattle.desk_model.specs.State.{State, initial, durable}
-use Rattle.desk_model.specs.Sound.{Sound}
-use Rattle.site_desk.specs.Stands.{apply, applied_from, applied, stood, stands, Standing, StandsFor, Between, Opens}
-use Rattle.site_desk.specs.Desk.{KeptState, KeptMore}
-use Rattle.site_desk.proofs.SoundImages.{disk_sound}
+use Rattle.vault_disk.proofs.Moments.{weaker}
+use Rattle.pool_journal.specs.Stops.{Leaves, OpensTo}
+use Rattle.desk_model.specs.State.{State, durable}
+use Rattle.desk_model.specs.Sound.{Sound, KeepsCopies}
+use Rattle.vault_ledger.specs.Keeping.{KeptLedger, SaysLedger, Between as LeavesEither, StandsFor as StandsAs}
+use Rattle.vault_ledger.specs.Ledger.{Ledger, stands, state_over}
+use Rattle.vault_ledger.proofs.KeptLedgers.{kept_stands}
+use Rattle.vault_ledger.proofs.KnownLedgers.{kept_says, says_reads, standing_kept}
+use Rattle.vault_ledger.proofs.SoundLedgers.{vault_sound}
+use Rattle.site_desk.specs.Desk.{desk_state}
+use Rattle.site_desk.specs.Stands.{Between, Opens, Standing, StandsFor, state_by, state_in}
 
-applied-push : (at : ℕ) (o : Option State) (fs : List Found) (end : ℕ) (r : Record) (s t : State) → applied_from at o fs ≡ Ok s → apply s r ≡ Some t → applied_from at o (with_one fs end r) ≡ Ok t
-applied-push at None fs end r s t is fits = absurd (cc is)
-applied-push at (Some u) [] end r s t is fits =
-    let same : u ≡ s = cc is in
-    ap (λ (v : State). applied_from end (apply v r) []) same ∙ ap (λ (o : Option State). applied_from end o []) fits
-applied-push at (Some u) (f ∷ fs) end r s t is fits = applied-push f.at (apply u f.is) fs end r s t is fits
+-- The state of a desk.
 
--- what reads as these records stands for the state that they make
-pub stands_by : (c : DiskImage) (fs : List Found) (s : State) → reading (c 0) ≡ found fs → applied initial fs ≡ Ok s → stands c ≡ Some s
-stands_by c fs s reads made = ap (λ (r : Reading). result_ok (stood r)) reads ∙ ap result_ok made
+-- it is that of the ledger that the journal says
+pub state_is : (disk : Disk) (end : ℕ) (l : Ledger) → SaysLedger disk end l → desk_state disk ≡ state_over disk.seen l
+state_is disk end l says = ap (λ (r : Result Ledger ℕ). state_in (state_by disk.seen r)) (says_reads disk end l says)
 
-pub standing : (d : Disk) (end : ℕ) (s : State) → KeptState d end s → s ≡ durable s → Standing d s
-standing d end s kept is = record { each = λ c left. stands_by c kept.records s (ap reading (kept.rest.durable.only c left) ∙ kept.rest.reads) kept.made ∙ ap Some is }
+pub kept_state : (disk : Disk) (end : ℕ) (l : Ledger) → KeptLedger disk end l → desk_state disk ≡ state_over disk.seen l
+kept_state disk end l kept = state_is disk end l (kept_says disk end l kept)
 
--- what a journal at rest makes is sound
-pub kept_sound : (d : Disk) (end : ℕ) (s : State) → KeptState d end s → Sound s
-kept_sound d end s kept = (disk_sound d.seen s (stands_by d.seen kept.records s kept.rest.reads kept.made)).0
+-- What is durable.
 
-pub nothing_done : (s t : State) (d : Disk) → Standing d s → Between s t d d
-nothing_done s t d standing_now = record { left = λ c left. inl (standing_now.each c left); during = started d (λ c b. StandsFor s t c × (b ≡ d.sent)) }
+-- what an image of a disk stands for is sound, and each copy that is kept in it restores the bytes of its image
+pub disk_sound : (c : DiskImage) (s : State) → stands c ≡ Some s → Sound s × KeepsCopies s
+disk_sound c s is = vault_sound c s is
 
--- a record that takes the state to another one was added
-module _ (s t : State) (r : Record) (old new : Disk) (end : ℕ) (kept : KeptState old end s) (s_is : s ≡ durable s) (t_is : t ≡ durable t) (fits : apply s r ≡ Some t) where
-  made : applied initial (with_one kept.records end r) ≡ Ok t
-  made = applied-push 0 (Some initial) kept.records end r s t kept.made fits
+-- what has no jobs outlives a stop as it is
+durable_same : (s : State) → Sound s → durable s ≡ s
+durable_same s sound =
+    let jobs = sym sound.no_jobs in
+    let next = sym sound.next_job in
+    λ i. record s { jobs = jobs i; next_job = next i }
 
-  pub committed : Stops kept.records end r old new → Between s t old new
-  committed stops =
-      let either : (c : DiskImage) → FromBefore old (IsBeforeOrAfter kept.records end r) c → StandsFor s t c = λ c from. ⊎_elim
-      (λ before. inl (stands_by c kept.records s before kept.made ∙ ap Some s_is))
-      (λ after. inr (stands_by c (with_one kept.records end r) t after made ∙ ap Some t_is))
-      from.inside in
-      record {
-        left = λ c left. either c (stops.left c left);
-        during = weaker old new (Appending kept.records end r old) (λ c b. StandsFor s t c × (b ≡ old.sent)) (λ c b left. (either c left.0, left.1)) stops.during;
-      }
+-- so what an image of a disk stands for is durable
+pub stands_durable : (c : DiskImage) (s : State) → stands c ≡ Some s → stands c ≡ Some (durable s)
+stands_durable c s is = is ∙ ap (λ (t : State). Some t) (sym (durable_same s (disk_sound c s is).0))
 
-  pub kept_on : (end' : ℕ) → Appended kept.records end r old new end' → KeptMore kept.records end r new end' t
-  kept_on end' appended = record { kept = record { records = with_one kept.records end r; rest = appended.rest; made = made }; records_are = refl }
+durable_each : (s t : State) (c : DiskImage) → StandsAs s t c → StandsFor s t c
+durable_each s t c (inl before) = inl (stands_durable c s before)
+durable_each s t c (inr after) = inr (stands_durable c t after)
 
-abbrev pub still_kept : (old new : Disk) (end : ℕ) (s : State) → Rests old new → KeptState old end s → KeptState new end s
-still_kept old new end s rests kept = record {
-  records = kept.records;
-  rest = record {
-    holds = subst (λ (l : List ℕ). Holds l kept.records end) (sym (rests.seen 0)) kept.rest.holds;
-    reads = ap reading (rests.seen 0) ∙ kept.rest.reads;
-    durable = record { only = λ c left. kept.rest.durable.only c (rests.left c left) ∙ sym (rests.seen 0) };
-    short = kept.rest.short;
-  };
-  made = kept.made;
+pub durable_between : (s t : State) (old new : Disk) → LeavesEither s t old new → Between s t old new
+durable_between s t old new either = record {
+  left = λ c left. durable_each s t c (either.left c left);
+  during = weaker old new (λ c b. StandsAs s t c × (b ≡ old.sent)) (λ c b. StandsFor s t c × (b ≡ old.sent)) (λ c b left. (durable_each s t c left.0, left.1)) either.during;
 }
 
--- what reads the same stands for the same
-pub opens : (old new : Disk) → OpenStops old new → Opens old new
-opens old new (inl unsynced) = inl unsynced
-opens old new (inr synced) =
-    let same : (c : DiskImage) → SameReading old c → stands c ≡ stands old.seen = λ c from. ap (λ (r : Reading). result_ok (stood r)) from.inside in
-    let either : (c : DiskImage) → old.may_leave c ⊎ SameReading old c → old.may_leave c ⊎ (stands c ≡ stands old.seen) = λ c. ⊎_elim (λ left. inl left) (λ from. inr (same c from)) in
-    inr (record {
-      leaves = record {
-        left = λ c left. either c (synced.leaves.left c left);
-        during = weaker old new (λ c b. (old.may_leave c ⊎ SameReading old c) × (b ≡ old.sent)) (λ c b. (old.may_leave c ⊎ (stands c ≡ stands old.seen)) × (b ≡ old.sent)) (λ c b left. (either c left.0, left.1)) synced.leaves.during;
-      };
-      since = synced.since;
-      within = synced.within;
-      from_then = λ c b left. let then = synced.from_then c b left in (same c then.0, then.1);
-    })
+-- What each stop leaves.
 
--- at each moment it leaves the one or the other
-pub opens_so : (old new : Disk) → Opens old new → Leaves (λ c. old.may_leave c ⊎ (stands c ≡ stands old.seen)) old new
-opens_so old new (inl unsynced) = record {
+-- over a vault in which the ledger is kept each stop leaves the desk's state
+pub kept_standing : (disk : Disk) (end : ℕ) (l : Ledger) → KeptLedger disk end l → Standing disk (state_over disk.seen l)
+kept_standing disk end l kept = record { each = λ c left. stands_durable c (state_over disk.seen l) (kept_stands disk end l kept c left) }
+
+-- and only there
+pub standing_known : (disk : Disk) (end : ℕ) (l : Ledger) → disk.may_leave disk.seen → SaysLedger disk end l → Standing disk (desk_state disk) → KeptLedger disk end l
+standing_known disk end l now says standing = (standing_kept disk end l (durable (desk_state disk)) now says standing.each).0
+
+opens_by : (old new : Disk) (s : State) → OpensTo (λ c. stands c ≡ Some s) old new → Leaves (λ c. old.may_leave c ⊎ (stands c ≡ Some s)) old new
+opens_by old new s (inl unsynced) = record {
   left = λ c left. inl (unsynced.left c left);
-  during = weaker old new (λ c b. old.may_leave c × (b ≡ old.sent)) (λ c b. (old.may_leave c ⊎ (stands c ≡ stands old.seen)) × (b ≡ old.sent)) (λ c b left. (inl left.0, left.1)) unsynced.during;
+  during = weaker old new (λ c b. old.may_leave c × (b ≡ old.sent)) (λ c b. (old.may_leave c ⊎ (stands c ≡ Some s)) × (b ≡ old.sent)) (λ c b left. (inl left.0, left.1)) unsynced.during;
 }
-opens_so old new (inr synced) = synced.leaves
+opens_by old new s (inr synced) = synced.leaves
+
+-- at each moment an opening leaves what could be left before, or what stands for the same
+pub opens_so : (old new : Disk) (s : State) → stands old.seen ≡ Some s → Opens old new → Leaves (λ c. old.may_leave c ⊎ (stands c ≡ Some s)) old new
+opens_so old new s is opens = opens_by old new s (opens s is)

@@ -1,52 +1,23 @@
--- What an image of a disk stands for.
-use Rattle.std.specs.Prelude.{◌≡◌, ◌⊎◌, ℕ, if◌then◌else◌, List, [], ◌∷◌, Option, Some, None, Result, Ok, Err}
-use Rattle.std.specs.Result.{result_ok}
-use Rattle.vault_disk.specs.Disk.{Disk, Image as DiskImage, During}
-use Rattle.pool_journal.specs.declared.entry.Entry.{Entry}
-use Rattle.pool_journal.specs.declared.entry.Entry.TheVariants as entry
-use Rattle.pool_journal.specs.Entries.{Record}
-use Rattle.pool_journal.specs.Records.{Found, Reading, found, broken, foreign, reading}
+-- What a disk stands for, and what a desk leaves of it.
+use Rattle.std.specs.Prelude.{◌≡◌, ◌⊎◌, ℕ, Some, Result, Ok, Err}
+use Rattle.vault_disk.specs.Disk.{Disk, During, Image as DiskImage}
 use Rattle.pool_journal.specs.Stops.{OpensTo}
-use Rattle.vault_ledger.specs.Fitting.{image_fits, settled, whole_image, whole_unit}
 use Rattle.desk_model.specs.State.{State, initial, durable}
-use Rattle.desk_model.specs.Backups.{sealed}
+use Rattle.vault_ledger.specs.Ledger.{Ledger, journal_reads, stands, state_over}
 
--- the state after one record, where it fits; one of segments fits in no state, until there are pools that hold them
-abbrev pub apply_entry : State → Entry → List ℕ → Option State
-apply_entry s (entry.Settings lines) bytes = settled s lines
-apply_entry s (entry.BackupSealed image segments) bytes = None
-apply_entry s (entry.CopySealed id copy completed segments) bytes = None
-apply_entry s (entry.WholeImage w) bytes = if image_fits s w then Some (sealed (whole_image s w bytes) (whole_unit s w) s) else None
+-- the state of a ledger with the bytes that the pools have, or the offset at which the journal is no vault's
+abbrev pub state_by : DiskImage → Result Ledger ℕ → Result State ℕ
+state_by c (Ok l) = Ok (state_over c l)
+state_by c (Err at) = Err at
 
-abbrev pub apply : State → Record → Option State
-apply s r = apply_entry s r.entry r.bytes
-
--- the state after these records, or the offset of the first that doesn't fit
-abbrev pub applied_from : ℕ → Option State → List Found → Result State ℕ
-applied_from at None fs = Err at
-applied_from at (Some s) [] = Ok s
-applied_from at (Some s) (f ∷ fs) = applied_from f.at (apply s f.is) fs
-
-abbrev pub applied : State → List Found → Result State ℕ
-applied s fs = applied_from 0 (Some s) fs
-
--- the state, and an error behind it
-abbrev pub unless_before : ℕ → Result State ℕ → Result State ℕ
-unless_before at (Ok s) = Err at
-unless_before at (Err earlier) = Err earlier
-
--- the state that a journal makes, or the offset at which it is no vault's: of its first record that is broken or doesn't fit
-abbrev pub stood : Reading → Result State ℕ
-stood (found fs) = applied initial fs
-stood (broken fs at) = unless_before at (applied initial fs)
-stood (foreign at) = Err at
-
+-- what an image of a disk reads as, whether or not its pools are true
 abbrev pub opened : DiskImage → Result State ℕ
-opened c = stood (reading (c 0))
+opened c = state_by c (journal_reads c)
 
--- the durable state that an image of a disk stands for
-abbrev pub stands : DiskImage → Option State
-stands c = result_ok (opened c)
+-- that state; where there is none, that of a new vault
+abbrev pub state_in : Result State ℕ → State
+state_in (Ok s) = s
+state_in (Err at) = initial
 
 -- each image that a stop may leave now stands for this state
 pub record Standing (disk : Disk) (state : State) : Type 0 where
@@ -60,6 +31,6 @@ pub record Between (s t : State) (old new : Disk) : Type 0 where
   pub left : (c : DiskImage) → new.may_leave c → StandsFor s t c
   pub during : During old new (λ c b. StandsFor s t c × (b ≡ old.sent))
 
--- an opening leaves what could be left before, until the first sync of file 0 has succeeded, and from then on what stands for the same
+-- an opening of a vault that stands for a state leaves what could be left before, until the first syncs of the journal and of the pools have succeeded, and from then on what stands for the same
 abbrev pub Opens : Disk → Disk → Type 0
-Opens old new = OpensTo (λ c. stands c ≡ stands old.seen) old new
+Opens old new = (s : State) → stands old.seen ≡ Some s → OpensTo (λ c. stands c ≡ Some s) old new

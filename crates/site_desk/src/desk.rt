@@ -1,6 +1,6 @@
 ghost use Rattle.std.specs.Prelude.{◌≡◌};
 
-use crate::index::Index;
+use desk_index::Index;
 use pool_journal::Journal;
 use std::marker::Model;
 use vault_disk::Vault;
@@ -16,13 +16,13 @@ pub struct Desk<V: Vault> {
 
 impl<V: Vault> Model for Desk<V> {
     ghost use Rattle.std.specs.Prelude.{◌≡◌, false};
-    ghost use Rattle.site_desk.specs.Desk.{DeskValue, desk_state, Kept};
+    ghost use Rattle.site_desk.specs.Desk.{DeskValue, desk_state, Known};
 
     ghost Value = { DeskValue V };
 
-    ghost view = { λ d. record { state = desk_state (V.disk d.vault) d.index.site; stopped = d.stopped; vault = d.vault } };
+    ghost view = { λ d. record { state = desk_state (V.disk d.vault); site = d.index.site; catalogue = d.index.catalogue; stopped = d.stopped; vault = d.vault } };
 
-    ghost invariant = { λ d. d.stopped ≡ false → (V.disk d.vault).tells → Kept (V.disk d.vault) d.journal d.index };
+    ghost invariant = { λ d. d.stopped ≡ false → Known (V.disk d.vault) d.journal d.index };
 }
 
 impl<V: Vault> Desk<V> {

@@ -36,12 +36,11 @@ recorded_kept l kept (entry.BackupSealed image segments) m is =
     let same : with_backup image segments l ≡ m = cc done.1 in
     subst IsLedger same (backup_kept l kept image segments done.0)
 recorded_kept l kept (entry.CopySealed id copy completed segments) m is = absurd (cc is)
-recorded_kept l kept (entry.WholeImage image) m is = absurd (cc is)
 
 all_kept : (fs : List Found) (at : ℕ) (o : Option Ledger) (m : Ledger) → ((l : Ledger) → o ≡ Some l → IsLedger l) → recorded_from at o fs ≡ Ok m → IsLedger m
 all_kept fs at None m kept is = absurd (cc is)
 all_kept [] at (Some l) m kept is = let same : l ≡ m = cc is in subst IsLedger same (kept l refl)
-all_kept (f ∷ fs) at (Some l) m kept is = all_kept fs f.at (recorded l f.is.entry) m (λ k made. recorded_kept l (kept l refl) f.is.entry k made) is
+all_kept (f ∷ fs) at (Some l) m kept is = all_kept fs f.at (recorded l f.is) m (λ k made. recorded_kept l (kept l refl) f.is k made) is
 
 reading_kept : (r : Reading) (l : Ledger) → ledger_of r ≡ Ok l → IsLedger l
 reading_kept (found fs) l is = all_kept fs 0 (Some new_ledger) l (λ k some. let same : new_ledger ≡ k = cc some in subst IsLedger same new_kept) is

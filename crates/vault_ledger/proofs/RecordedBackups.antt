@@ -16,7 +16,7 @@ use Rattle.desk_model.specs.State.{State}
 use Rattle.vault_ledger.specs.Fitting.{whole_unit}
 use Rattle.vault_ledger.specs.Keeping.{Between, KeepsLive, KeptLedger, SaysLedger, StandsFor}
 use Rattle.vault_ledger.specs.Ledger.{Ledger, LiveSlot, are_true, backup_fits, live_on, new_ledger, piece_in, pieces_on, pool_file, recorded, segment_of, state_over, with_backup}
-use Rattle.vault_ledger.specs.Sealing.{IsToRecord, backup_record}
+use Rattle.vault_ledger.specs.Sealing.{IsToRecord}
 use Rattle.vault_ledger.proofs.AppendedLedgers.{append_between, append_kept, recorded_push}
 use Rattle.vault_ledger.proofs.KeptLedgers.{kept_rests, rest_still}
 use Rattle.vault_ledger.proofs.SyncedPools.{between_on, rested_between, synced_backup}
@@ -62,14 +62,14 @@ module _ (old mid : Disk) (end : ℕ) (l : Ledger) (w : WholeImage) (segments : 
   seen = λ i f. rests.seen f i
 
   -- what the journal says, where it was read
-  recorded_says : (new : Disk) (end' : ℕ) → backup_fits l w segments ≡ true → SaysLedger old end l → ((fs : List Found) → AtRest mid end fs → Appended fs end (backup_record w segments) mid new end') → SaysLedger new end' m
+  recorded_says : (new : Disk) (end' : ℕ) → backup_fits l w segments ≡ true → SaysLedger old end l → ((fs : List Found) → AtRest mid end fs → Appended fs end (entry.BackupSealed w segments) mid new end') → SaysLedger new end' m
   recorded_says new end' fits says append = record {
     records = _;
     rest = (append says.records (rest_still old mid end says.records (rests.seen 0) (λ c left. says.rest.durable.only c (rests.left c left)) says.rest)).rest;
-    says = recorded_push 0 (Some new_ledger) says.records end (backup_record w segments) l m says.says (backup_recorded l w segments fits);
+    says = recorded_push 0 (Some new_ledger) says.records end (entry.BackupSealed w segments) l m says.says (backup_recorded l w segments fits);
   }
 
-  pub ok_says : {T E : Type 0} (r : Result T E) (new : Disk) (end' : ℕ) → backup_fits l w segments ≡ true → SaysLedger old end l → ((fs : List Found) → AtRest mid end fs → OnOk r (Appended fs end (backup_record w segments) mid new end')) → OnOk r (SaysLedger new end' m)
+  pub ok_says : {T E : Type 0} (r : Result T E) (new : Disk) (end' : ℕ) → backup_fits l w segments ≡ true → SaysLedger old end l → ((fs : List Found) → AtRest mid end fs → OnOk r (Appended fs end (entry.BackupSealed w segments) mid new end')) → OnOk r (SaysLedger new end' m)
   ok_says (Ok v) new end' fits says append = recorded_says new end' fits says append
   ok_says (Err e) new end' fits says append = tt
 
@@ -93,25 +93,25 @@ module _ (old mid : Disk) (end : ℕ) (l : Ledger) (w : WholeImage) (segments : 
     pub unsynced_between : During old mid (Now mid) → mid.sent ≡ old.sent → Between s t old mid
     unsynced_between during sent = between_wider s t old mid (sync_between during sent)
 
-    module _ (durable : segments.added ≢ [] → (c : DiskImage) → mid.may_leave c → c file ≡ old.seen file) (new : Disk) (stops : (fs : List Found) → AtRest mid end fs → Stops fs end (backup_record w segments) mid new) where
+    module _ (durable : segments.added ≢ [] → (c : DiskImage) → mid.may_leave c → c file ≡ old.seen file) (new : Disk) (stops : (fs : List Found) → AtRest mid end fs → Stops fs end (entry.BackupSealed w segments) mid new) where
       keeps : KeepsLive mid m
       keeps = synced_any old mid l w segments rests (subst (λ (f : ℕ). segments.added ≢ [] → (c : DiskImage) → mid.may_leave c → c f ≡ old.seen f) ready.file_is durable) kept.keeps
 
-      stops_here : Stops mid_kept.records end (backup_record w segments) mid new
+      stops_here : Stops mid_kept.records end (entry.BackupSealed w segments) mid new
       stops_here = stops mid_kept.records mid_kept.rest
 
       -- each stop, from the sync on
       pub recorded_between : During old mid (Now mid) → mid.sent ≡ old.sent → Between s t old new
       recorded_between during sent = between_on s t old mid new sent (sync_between during sent)
           (subst (λ (c : DiskImage). Between (state_over c l) (state_over c m) mid new) seen
-          (append_between l m (backup_record w segments) mid new end mid_kept (backup_recorded l w segments ready.fits) true_mid keeps stops_here))
+          (append_between l m (entry.BackupSealed w segments) mid new end mid_kept (backup_recorded l w segments ready.fits) true_mid keeps stops_here))
 
       -- the next ledger is known
-      recorded_kept : (end' : ℕ) → ((fs : List Found) → AtRest mid end fs → Appended fs end (backup_record w segments) mid new end') → KeptLedger new end' m × (state_over new.seen m ≡ t)
+      recorded_kept : (end' : ℕ) → ((fs : List Found) → AtRest mid end fs → Appended fs end (entry.BackupSealed w segments) mid new end') → KeptLedger new end' m × (state_over new.seen m ≡ t)
       recorded_kept end' append =
-          let done = append_kept l m (backup_record w segments) mid new end mid_kept (backup_recorded l w segments ready.fits) true_mid keeps stops_here end' (append mid_kept.records mid_kept.rest) in
+          let done = append_kept l m (entry.BackupSealed w segments) mid new end mid_kept (backup_recorded l w segments ready.fits) true_mid keeps stops_here end' (append mid_kept.records mid_kept.rest) in
           (done.0, done.2 ∙ ap (λ (c : DiskImage). state_over c m) seen)
 
-      pub ok_kept : {T E : Type 0} (r : Result T E) (end' : ℕ) → ((fs : List Found) → AtRest mid end fs → OnOk r (Appended fs end (backup_record w segments) mid new end')) → OnOk r (KeptLedger new end' m × (state_over new.seen m ≡ t))
+      pub ok_kept : {T E : Type 0} (r : Result T E) (end' : ℕ) → ((fs : List Found) → AtRest mid end fs → OnOk r (Appended fs end (entry.BackupSealed w segments) mid new end')) → OnOk r (KeptLedger new end' m × (state_over new.seen m ≡ t))
       ok_kept (Ok v) end' append = recorded_kept end' append
       ok_kept (Err e) end' append = tt

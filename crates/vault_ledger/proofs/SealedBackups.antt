@@ -14,8 +14,7 @@ use Rattle.segment_pool.specs.declared.fault.PoolFault.{PoolFault}
 use Rattle.segment_pool.specs.declared.fault.PoolFault.TheVariants as fault
 use Rattle.copy_fragments.specs.Placings.{PlacingFails, PlacingTold, lacking, new_pieces}
 use Rattle.desk_model.specs.Pieces.{pieces}
-use Rattle.desk_model.specs.Sound.{stored_on}
-use Rattle.desk_model.specs.State.{State}
+use Rattle.desk_model.specs.State.{State, stored_on}
 use Rattle.vault_ledger.specs.Fitting.{image_fits, whole_unit}
 use Rattle.vault_ledger.specs.Following.{IsSamePool}
 use Rattle.vault_ledger.specs.Keeping.{Between, KeptLedger, SaysLedger}
@@ -134,6 +133,10 @@ module _ (l : Ledger) (in_order : IsLedger l) (w : WholeImage) (bytes : List ℕ
 
     pub slots_enough : IsWithin pool (new_pieces pool c bytes) → HasSlots pool.slots s w bytes
     slots_enough within more = let some : 1 ≤ length (new_pieces pool c bytes) = omega (arith, more, before_count, after_count) in omega (arith, within some, after_count)
+
+    -- so where there aren't, they weren't placed
+    pub slots_lacking : IsWithin pool (new_pieces pool c bytes) → (HasSlots pool.slots s w bytes → ⊥) → (old new : Disk) → Between s s old new
+    slots_lacking within lacks old new = absurd (lacks (slots_enough within))
 
     -- what a refusal tells
     pub placing_fails : (e : PoolFault) (faults now : ℕ) → PlacingTold sha256 pool c bytes e → PlacingFails pool faults now e → (IsDamage e → ⊥) → SealingFails pool.slots s w bytes e

@@ -104,13 +104,12 @@ abbrev pub recorded : Ledger → Entry → Option Ledger
 recorded l (entry.Settings lines) = option_map (with_outline l) (settled l.outline lines)
 recorded l (entry.BackupSealed image segments) = if backup_fits l image segments then Some (with_backup image segments l) else None
 recorded l (entry.CopySealed id copy completed segments) = None
-recorded l (entry.WholeImage image) = None
 
 -- the ledger after these records, or the offset of the first that doesn't fit
 abbrev pub recorded_from : ℕ → Option Ledger → List Found → Result Ledger ℕ
 recorded_from at None fs = Err at
 recorded_from at (Some l) [] = Ok l
-recorded_from at (Some l) (f ∷ fs) = recorded_from f.at (recorded l f.is.entry) fs
+recorded_from at (Some l) (f ∷ fs) = recorded_from f.at (recorded l f.is) fs
 
 abbrev pub all_recorded : List Found → Result Ledger ℕ
 all_recorded fs = recorded_from 0 (Some new_ledger) fs

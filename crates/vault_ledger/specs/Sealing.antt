@@ -6,9 +6,7 @@ use Rattle.vault_disk.specs.Disk.{Disk, Image as DiskImage}
 use Rattle.segment_pool.specs.Slots.{PoolState, number_held}
 use Rattle.segment_pool.specs.declared.fault.PoolFault.{PoolFault}
 use Rattle.segment_pool.specs.declared.fault.PoolFault.TheVariants as fault
-use Rattle.pool_journal.specs.Entries.{Record}
-use Rattle.desk_model.specs.State.{State}
-use Rattle.desk_model.specs.Sound.{stored_on}
+use Rattle.desk_model.specs.State.{State, stored_on}
 use Rattle.desk_model.specs.Pieces.{pieces, with_pieces}
 use Rattle.desk_model.specs.Backups.{sealed, unit_at}
 use Rattle.vault_ledger.specs.Fitting.{whole_entry, whole_unit}
@@ -24,10 +22,6 @@ use Rattle.pool_journal.specs.declared.segments.Segments.{Segments}
 pub record HasRoom (count : ℕ) (room : RoomState) : Type 0 where
   pub empty : room.bytes ≡ []
   pub size : 313 + 44 * count ≤ room.size
-
--- the record of a backup
-abbrev pub backup_record : WholeImage → Segments → Record
-backup_record image segments = record { entry = entry.BackupSealed image segments; bytes = [] }
 
 -- a backup's segments fit the ledger, and with them the pools are true; its unit's pool is this file
 pub record IsToRecord (l : Ledger) (w : WholeImage) (segments : Segments) (file : ℕ) (seen : DiskImage) : Type 0 where

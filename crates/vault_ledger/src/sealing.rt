@@ -18,7 +18,7 @@ ghost use Rattle.vault_ledger.specs.Pools.{HoldsLive, slots_in, unrecorded};
 ghost use Rattle.vault_ledger.specs.Fitting.{image_fits};
 ghost use Rattle.vault_ledger.specs.Keeping.{Between, KeptLedger, SaysLedger};
 ghost use Rattle.vault_ledger.specs.Ledger.{Ledger, backup_fits, segments_fit, spelled, state_over, with_backup};
-ghost use Rattle.vault_ledger.specs.Sealing.{HasRoom, HasSlots, IsPoolFor, IsSealed, IsToRecord, IsUnsealed, IsWithin, SealingFails, backup_record, state_sealed};
+ghost use Rattle.vault_ledger.specs.Sealing.{HasRoom, HasSlots, IsPoolFor, IsSealed, IsToRecord, IsUnsealed, IsWithin, SealingFails, state_sealed};
 ghost use Rattle.vault_ledger.specs.Wellformed.{IsLedger};
 
 use crate::keeping::keep_pieces;
@@ -59,6 +59,7 @@ pub fn seal_backup<V: Vault>(
     ensures between { (l : Ledger) → IsLedger l → image_fits l.outline image ≡ true → image.length ≡ length cut.now.bytes → IsPoolFor l image pool.old → (V.disk vault.old).tells → KeptLedger (V.disk vault.old) journal.old l → Between (state_over (V.disk vault.old).seen l) (state_sealed (state_over (V.disk vault.old).seen l) image cut.now.bytes) (V.disk vault.old) (V.disk vault.new) }
     ensures unfailed { (l : Ledger) → IsLedger l → image_fits l.outline image ≡ true → image.length ≡ length cut.now.bytes → IsPoolFor l image pool.old → (V.disk vault.old).tells → KeptLedger (V.disk vault.old) journal.old l → IfErr result (SealingFails pool.old.slots (state_over (V.disk vault.old).seen l) image cut.now.bytes) }
     ensures slots { (l : Ledger) → IsLedger l → image_fits l.outline image ≡ true → image.length ≡ length cut.now.bytes → IsPoolFor l image pool.old → (V.disk vault.old).tells → KeptLedger (V.disk vault.old) journal.old l → OnOk result (HasSlots pool.old.slots (state_over (V.disk vault.old).seen l) image cut.now.bytes) }
+    ensures unfilled { (l : Ledger) → IsLedger l → image_fits l.outline image ≡ true → image.length ≡ length cut.now.bytes → IsPoolFor l image pool.old → (V.disk vault.old).tells → KeptLedger (V.disk vault.old) journal.old l → ¬ HasSlots pool.old.slots (state_over (V.disk vault.old).seen l) image cut.now.bytes → Between (state_over (V.disk vault.old).seen l) (state_over (V.disk vault.old).seen l) (V.disk vault.old) (V.disk vault.new) }
     ensures pool { IsSamePool pool.old pool.new }
     ensures number { IfOk result (λ slots. length slots.items ≡ length (pieces cut.now.size cut.now.bytes)) }
     ensures refused { IfErr result (λ fault. ¬ IsDiskFault fault → IsAsBefore pool.old pool.new × (journal.new ≡ journal.old)) }
@@ -200,14 +201,14 @@ fn write_backup<V: Vault>(
     requires few { length segments.pieces ≤ piece_limit }
     requires fewer { length segments.added ≤ length segments.pieces }
     requires room { HasRoom (length segments.pieces) room }
-    ensures appended { (fs : List Found) → (V.disk vault.old).tells → AtRest (V.disk vault.old) journal.old fs → OnOk result (Appended fs journal.old (backup_record image segments) (V.disk vault.old) (V.disk vault.new) journal.new) }
-    ensures stops { (fs : List Found) → (V.disk vault.old).tells → AtRest (V.disk vault.old) journal.old fs → Stops fs journal.old (backup_record image segments) (V.disk vault.old) (V.disk vault.new) }
+    ensures appended { (fs : List Found) → (V.disk vault.old).tells → AtRest (V.disk vault.old) journal.old fs → OnOk result (Appended fs journal.old (Entry.BackupSealed image segments) (V.disk vault.old) (V.disk vault.new) journal.new) }
+    ensures stops { (fs : List Found) → (V.disk vault.old).tells → AtRest (V.disk vault.old) journal.old fs → Stops fs journal.old (Entry.BackupSealed image segments) (V.disk vault.old) (V.disk vault.new) }
     ensures same { IsSame (V.disk vault.old) (V.disk vault.new) }
     ensures failed { OnErr result (Rose (V.disk vault.old).faults (V.disk vault.new).faults) }
 {
     let entry = Entry::BackupSealed { image, segments };
     // It tells that the record takes no more than its room.
     let _size = entry.size();
-    let staged = Journal::stage_in(room, &entry, &[]);
+    let staged = Journal::stage_in(room, &entry);
     journal.write(vault, &staged)
 }

@@ -1,4 +1,4 @@
-use Rattle.site_desk.proofs.SoundImages.{disk_sound}
+use Rattle.site_desk.proofs.Standings.{disk_sound}
 use Rattle.bp_cli.proofs.Running.{ran_bad}
 use Rattle.bp_cli.proofs.session.run.Goals as goal
 

@@ -15,7 +15,7 @@ returns-in-Ok-clause-session g c =
     let o = c.in-Ok.ensures in
     subst (λ (m : g.row.M.Denot). RanSession (g.M.Vault.disk c.args.machine) (g.M.Vault.disk m) (g.S.Source.input c.args.source.now) (g.S.Source.input c.serve-status.new.source) (g.C.Clock.ticks c.args.clock.now) (g.C.Clock.ticks c.serve-status.new.clock) c.serve-status.result) (sym c.close.ensures)
     (session_served (g.M.Vault.disk c.args.machine) (g.M.Vault.disk c.in-Ok.desk.vault) (g.M.Vault.disk c.serve-status.new.desk.vault) (g.S.Source.input c.args.source.now) (g.S.Source.input c.serve-status.new.source) (g.C.Clock.ticks c.args.clock.now) (g.C.Clock.ticks c.serve-status.new.clock) c.serve-status.result
-    (λ told. g.met.M.Vault.reads_count c.args.machine told, λ i b told left. g.met.M.Vault.only_now c.args.machine i b told left) o.same.tells o.same.sent o.same.send_faults o.same.faults o.stops c.in-Ok.desk.state (λ told. (o.state told).0) c.serve-status.ensures.serves)
+    (λ told. g.met.M.Vault.reads_count c.args.machine told, λ i b told left. g.met.M.Vault.only_now c.args.machine i b told left) o.same.tells o.same.sent o.same.send_faults o.same.faults o.stops c.in-Ok.desk.state o.state o.standing c.serve-status.ensures.serves)
 
 pub returns-clause-session : goal.returns-clause-session
 returns-clause-session g c =

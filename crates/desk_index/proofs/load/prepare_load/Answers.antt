@@ -4,9 +4,10 @@ use Rattle.std.specs.Prelude.{IfErr, IfOk, map}
 use Rattle.site_types.specs.Lines.{line_of}
 use Rattle.site_types.specs.declared.request.Request.{Request}
 use Rattle.pool_journal.specs.Entries.{IsStaged}
+use Rattle.pool_journal.specs.declared.entry.Entry.TheVariants as entry
 use Rattle.policy_book.specs.SiteFile.{site_requests}
 use Rattle.desk_model.specs.Settings.{all_set, count_text, is_setting}
-use Rattle.desk_index.specs.Changes.{AreRefused, AreSet, settings_record}
+use Rattle.desk_index.specs.Changes.{AreRefused, AreSet}
 use Rattle.desk_index.proofs.Loading.{always_loads, no_site, plain_site, ready_load, refused_all}
 use Rattle.desk_index.proofs.OfRequests.{refusal_of}
 use Rattle.desk_index.proofs.load.prepare_load.Goals as goal
@@ -29,7 +30,7 @@ set_all-requires-clause-settings c = subst (AllPass is_setting) (sym c.deref.ens
 pub returns-in-Ok-load-clause-ready : goal.returns-in-Ok-load-clause-ready
 returns-in-Ok-load-clause-ready c l known =
     ready_load c.args.request.now c.requires.file c.args.payload.now c.args.moment c.in-Ok-load.requests.items c.in-Ok-load.ensures.requests.0 c.in-Ok-load.ensures.requests.1 l known.follows.order c.in-Ok-load.ensures.formed c.in-Ok-load.ensures.changes c.set_all.new.index c.set_all.result
-    (subst (λ (rs : List Request). IfOk c.set_all.result (λ r. IsStaged (settings_record (map line_of rs)) r.staged)) c.deref.ensures.value c.set_all.ensures.staged)
+    (subst (λ (rs : List Request). IfOk c.set_all.result (λ r. IsStaged (entry.Settings (map line_of rs)) r.staged)) c.deref.ensures.value c.set_all.ensures.staged)
     (subst (λ (rs : List Request). IfOk c.set_all.result (λ r. r.body ≡ count_text rs)) c.deref.ensures.value c.set_all.ensures.body)
     (subst (λ (rs : List Request). IfOk c.set_all.result (λ _. AreSet l (all_set rs l.outline) c.set_all.new.index None)) c.deref.ensures.value (c.set_all.ensures.set l known))
 

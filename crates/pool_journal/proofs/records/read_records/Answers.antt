@@ -1,4 +1,4 @@
-use Rattle.pool_journal.proofs.Common.{ap, refl, arith, ℕ, ◌+◌, ◌-◌, [], ◌∷◌, ◌++◌, length, Record, Found}
+use Rattle.pool_journal.proofs.Common.{ap, refl, arith, ◌-◌, [], ◌∷◌, ◌++◌, length, Found}
 use Rattle.pool_journal.proofs.Bytes.{AllSmall-push}
 use Rattle.pool_journal.proofs.Reading.{cons_of, told_found, told_broken, cut_short, spells_none, one_more, one_more_spelled, one_more_placed, behind_header}
 use Rattle.pool_journal.proofs.records.read_records.Goals as goal
@@ -32,16 +32,13 @@ returns-in-Err-Broken-clause-told c =
 pub loop-rest-preserved : goal.loop-rest-preserved
 loop-rest-preserved c =
     let i = c.loop-rest.invariant in
-    let read = c.in-Ok.ensures in
-    let at : ℕ = length c.args.bytes.now - length c.loop-rest.rest.now in
-    let r : Record = record { entry = c.in-Ok.parsed.entry; bytes = read.0 } in
-    let f : Found = record { at = at; from = at + 5 + c.in-Ok.parsed.size; is = r } in
+    let f : Found = record { at = length c.args.bytes.now - length c.loop-rest.rest.now; is = c.in-Ok.entry } in
     record {
       bodies = i.bodies ++ c.in-Some.body.now ∷ [];
       fs = i.fs ++ f ∷ [];
       is = one_more _ i.bodies c.in-Some.body.now _ _ c.in-Some.next.now i.is (cons_of _ 165 i.some c.if-gate.false) c.in-Some.ensures.0;
       small = AllSmall-push _ _ i.small c.in-Some.ensures.1;
-      spell = one_more_spelled _ i.bodies i.fs c.in-Some.body.now _ f c.in-Ok.parsed.size i.is i.spell refl refl read.2 read.1;
-      entries = one_more_placed i.fs f _ _ _ i.entries c.in_ok-push-in-Ok.ensures.items (ap (λ (n : ℕ). record { at = at; from = at + 5 + c.in-Ok.parsed.size; size = n; entry = c.in-Ok.parsed.entry }) read.3);
+      spell = one_more_spelled _ i.bodies i.fs c.in-Some.body.now _ f i.is i.spell refl c.in-Ok.ensures;
+      entries = one_more_placed i.fs f _ _ _ i.entries c.in_ok-push-in-Ok.ensures.items refl;
       some = c.in-Some.ensures.2;
     }

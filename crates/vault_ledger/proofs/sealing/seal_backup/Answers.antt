@@ -8,11 +8,14 @@ use Rattle.vault_ledger.specs.Keeping.{Between, KeptLedger, SaysLedger}
 use Rattle.vault_ledger.specs.Ledger.{backup_fits, live_on, named_on, state_over, with_backup}
 use Rattle.vault_ledger.specs.Fitting.{whole_unit}
 use Rattle.vault_ledger.specs.Sealing.{IsToRecord, IsUnsealed, SealingFails}
-use Rattle.vault_ledger.proofs.SealedBackups.{nothing_between, placing_fails, placing_left, placing_unsealed, sealed_between, sealed_so, slots_enough, some_size, true_before}
+use Rattle.vault_ledger.proofs.SealedBackups.{nothing_between, placing_fails, placing_left, placing_unsealed, sealed_between, sealed_so, slots_enough, slots_lacking, some_size, true_before}
 use Rattle.vault_ledger.proofs.sealing.seal_backup.Goals as goal
 
 pub returns-in_err-room-clause-between : goal.returns-in_err-room-clause-between
 returns-in_err-room-clause-between g c = λ l order fits long own told kept. nothing_between l _ (g.V.Vault.disk c.args.vault.now) c.args.journal.now kept
+
+pub returns-in_err-room-clause-unfilled : goal.returns-in_err-room-clause-unfilled
+returns-in_err-room-clause-unfilled g c = λ l order fits long own told kept lacks. nothing_between l _ (g.V.Vault.disk c.args.vault.now) c.args.journal.now kept
 
 pub returns-in_err-slots-clause-unsealed : goal.returns-in_err-slots-clause-unsealed
 returns-in_err-slots-clause-unsealed g c = λ l order fits long own.
@@ -22,6 +25,10 @@ returns-in_err-slots-clause-unsealed g c = λ l order fits long own.
 
 pub returns-in_err-slots-clause-between : goal.returns-in_err-slots-clause-between
 returns-in_err-slots-clause-between g c = λ l order fits long own told kept.
+    placing_left l order c.args.image c.args.cut.now.bytes c.args.pool.now own (g.V.Vault.disk c.args.vault.now) (g.V.Vault.disk c.store_pieces.new.vault) c.args.journal.now _ (_, c.store_pieces.ensures.touches told) kept
+
+pub returns-in_err-slots-clause-unfilled : goal.returns-in_err-slots-clause-unfilled
+returns-in_err-slots-clause-unfilled g c = λ l order fits long own told kept lacks.
     placing_left l order c.args.image c.args.cut.now.bytes c.args.pool.now own (g.V.Vault.disk c.args.vault.now) (g.V.Vault.disk c.store_pieces.new.vault) c.args.journal.now _ (_, c.store_pieces.ensures.touches told) kept
 
 pub returns-in_err-slots-clause-unfailed : goal.returns-in_err-slots-clause-unfailed
@@ -95,3 +102,15 @@ returns-clause-slots g c = λ l order fits long own told kept.
     let seen = (g.V.Vault.disk c.args.vault.now).seen in
     let is_true = true_before l order c.args.image c.args.cut.now.bytes c.args.pool.now own seen kept.is_true in
     slots_enough l order c.args.image c.args.cut.now.bytes c.args.pool.now own seen (c.in_ok-slots.ensures.fits told is_true)
+
+pub returns-in_err-record_backup-clause-unfilled : goal.returns-in_err-record_backup-clause-unfilled
+returns-in_err-record_backup-clause-unfilled g c = λ l order fits long own told kept lacks.
+    let seen = (g.V.Vault.disk c.args.vault.now).seen in
+    let is_true = true_before l order c.args.image c.args.cut.now.bytes c.args.pool.now own seen kept.is_true in
+    slots_lacking l order c.args.image c.args.cut.now.bytes c.args.pool.now own seen (c.in_ok-slots.ensures.fits told is_true) lacks _ _
+
+pub returns-clause-unfilled : goal.returns-clause-unfilled
+returns-clause-unfilled g c = λ l order fits long own told kept lacks.
+    let seen = (g.V.Vault.disk c.args.vault.now).seen in
+    let is_true = true_before l order c.args.image c.args.cut.now.bytes c.args.pool.now own seen kept.is_true in
+    slots_lacking l order c.args.image c.args.cut.now.bytes c.args.pool.now own seen (c.in_ok-slots.ensures.fits told is_true) lacks _ _

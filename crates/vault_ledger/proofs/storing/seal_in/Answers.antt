@@ -1,4 +1,4 @@
-use Rattle.std.proofs.Common.{◌∙◌, ℕ, ap, arith, length, subst}
+use Rattle.std.proofs.Common.{◌∙◌, ℕ, ap, arith, length, subst, sym}
 use Rattle.std.specs.Prelude.{IfErr, OnOk}
 use Rattle.std.proofs.lemmas.Result.{IfOk-weaker}
 use Rattle.segment_pool.specs.Pieces.{pieces}
@@ -59,6 +59,12 @@ returns-clause-slots g c = λ l copies follows is_for told kept.
     subst (λ (slots : ℕ). OnOk c.seal_backup.result (HasSlots slots (state_over (g.V.Vault.disk c.args.vault.now).seen l) c.args.image c.args.cut.now.bytes))
     (slots_are l (record { pools = c.args.pools.now; copies = copies }) follows c.args.image c.args.unit.now is_for c.index-pools-unit.result)
     (c.seal_backup.ensures.slots l follows.order is_for.fits c.requires.length (pool_for l (record { pools = c.args.pools.now; copies = copies }) follows c.args.image c.args.unit.now is_for c.index-pools-unit.result) told kept)
+
+pub returns-clause-unfilled : goal.returns-clause-unfilled
+returns-clause-unfilled g c = λ l copies follows is_for told kept lacks.
+    c.seal_backup.ensures.unfilled l follows.order is_for.fits c.requires.length (pool_for l (record { pools = c.args.pools.now; copies = copies }) follows c.args.image c.args.unit.now is_for c.index-pools-unit.result) told kept
+    (subst (λ (slots : ℕ). HasSlots slots (state_over (g.V.Vault.disk c.args.vault.now).seen l) c.args.image c.args.cut.now.bytes → ⊥)
+    (sym (slots_are l (record { pools = c.args.pools.now; copies = copies }) follows c.args.image c.args.unit.now is_for c.index-pools-unit.result)) lacks)
 
 pub returns-clause-count : goal.returns-clause-count
 returns-clause-count g c =

@@ -19,14 +19,23 @@ cut-requires g c = let known = c.requires.known in some_segment known.0 c.args.s
 pub returns-in_err-cut-clause-between : goal.returns-in_err-cut-clause-between
 returns-in_err-cut-clause-between g c = λ l follows is_for told kept. nothing_between l _ (g.V.Vault.disk c.args.vault.now) c.args.journal.now kept
 
+pub returns-in_err-cut-clause-unfilled : goal.returns-in_err-cut-clause-unfilled
+returns-in_err-cut-clause-unfilled g c = λ l follows is_for told kept lacks. nothing_between l _ (g.V.Vault.disk c.args.vault.now) c.args.journal.now kept
+
 pub returns-in_err-id-clause-between : goal.returns-in_err-id-clause-between
 returns-in_err-id-clause-between g c = λ l follows is_for told kept. nothing_between l _ (g.V.Vault.disk c.args.vault.now) c.args.journal.now kept
+
+pub returns-in_err-id-clause-unfilled : goal.returns-in_err-id-clause-unfilled
+returns-in_err-id-clause-unfilled g c = λ l follows is_for told kept lacks. nothing_between l _ (g.V.Vault.disk c.args.vault.now) c.args.journal.now kept
 
 pub reserve_copy-requires-clause-some : goal.reserve_copy-requires-clause-some
 reserve_copy-requires-clause-some g c = let known = c.requires.known in some_fragment known.0 c.args.self.now known.1 c.args.image c.args.unit.now known.2
 
 pub returns-in_err-reserve_copy-clause-between : goal.returns-in_err-reserve_copy-clause-between
 returns-in_err-reserve_copy-clause-between g c = λ l follows is_for told kept. nothing_between l _ (g.V.Vault.disk c.args.vault.now) c.args.journal.now kept
+
+pub returns-in_err-reserve_copy-clause-unfilled : goal.returns-in_err-reserve_copy-clause-unfilled
+returns-in_err-reserve_copy-clause-unfilled g c = λ l follows is_for told kept lacks. nothing_between l _ (g.V.Vault.disk c.args.vault.now) c.args.journal.now kept
 
 pub seal_in-requires-clause-known : goal.seal_in-requires-clause-known
 seal_in-requires-clause-known g c =
@@ -91,3 +100,17 @@ returns-clause-unfailed g c = λ l follows is_for told kept.
     let pools_are : c.deref_mut.result.now ≡ c.args.self.now.pools = c.deref_mut.ensures.value ∙ ap (λ (s : StorageState). s.pools) c.self.view_is ∙ c.reserve_copy.ensures.pools in
     subst (λ (bytes : List ℕ). SealingFails c.args.unit.now.slots (state_over (g.V.Vault.disk c.args.vault.now).seen l) c.args.image bytes c.in-Err.fault) (ap (λ (d : CutBytes). d.bytes) c.in_ok-cut.ensures)
     (c.in-Err.ensures.unfailed l c.args.self.now.copies (with_pools l c.args.self.now c.deref_mut.result.now pools_are follows) is_for told kept)
+
+pub returns-in-Ok-clause-unfilled : goal.returns-in-Ok-clause-unfilled
+returns-in-Ok-clause-unfilled g c = λ l follows is_for told kept lacks.
+    let pools_are : c.deref_mut.result.now ≡ c.args.self.now.pools = c.deref_mut.ensures.value ∙ ap (λ (s : StorageState). s.pools) c.self.view_is ∙ c.reserve_copy.ensures.pools in
+    let bytes_are : c.in_ok-cut.cut.bytes ≡ c.args.bytes.now = ap (λ (d : CutBytes). d.bytes) c.in_ok-cut.ensures in
+    c.in-Ok.ensures.unfilled l c.args.self.now.copies (with_pools l c.args.self.now c.deref_mut.result.now pools_are follows) is_for told kept
+    (subst (λ (bytes : List ℕ). HasSlots c.args.unit.now.slots (state_over (g.V.Vault.disk c.args.vault.now).seen l) c.args.image bytes → ⊥) (sym bytes_are) lacks)
+
+pub returns-clause-unfilled : goal.returns-clause-unfilled
+returns-clause-unfilled g c = λ l follows is_for told kept lacks.
+    let pools_are : c.deref_mut.result.now ≡ c.args.self.now.pools = c.deref_mut.ensures.value ∙ ap (λ (s : StorageState). s.pools) c.self.view_is ∙ c.reserve_copy.ensures.pools in
+    let bytes_are : c.in_ok-cut.cut.bytes ≡ c.args.bytes.now = ap (λ (d : CutBytes). d.bytes) c.in_ok-cut.ensures in
+    c.in-Err.ensures.unfilled l c.args.self.now.copies (with_pools l c.args.self.now c.deref_mut.result.now pools_are follows) is_for told kept
+    (subst (λ (bytes : List ℕ). HasSlots c.args.unit.now.slots (state_over (g.V.Vault.disk c.args.vault.now).seen l) c.args.image bytes → ⊥) (sym bytes_are) lacks)

@@ -1,6 +1,0 @@
-use Rattle.std.proofs.Common.{◌≡◌, take, Ok}
-use Rattle.desk_model.specs.Restores.{images_in}
-use Rattle.site_desk.proofs.chain.bodies_of.Given as goal
-
-abbrev pub invariant-loop-bytes : goal.invariant-loop-bytes
-invariant-loop-bytes l = images_in (take l.bytes-index l.images) ≡ Ok l.bodies.items

@@ -1,7 +1,0 @@
-use Rattle.std.proofs.Common.{◌∙◌, ap, sym}
-use Rattle.desk_model.specs.Restores.{last_bytes}
-use Rattle.site_desk.proofs.ChainImages.{last_push}
-use Rattle.site_desk.proofs.chain.last_of.Goals as goal
-
-pub returns-in-Some : goal.returns-in-Some
-returns-in-Some c = sym (ap last_bytes c.in-Some.ensures.items ∙ last_push c.pop.new.self.items c.in-Some.bytes)
