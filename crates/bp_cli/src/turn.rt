@@ -1,6 +1,5 @@
 // One turn of a session: a request is carried out, and its reply is sent.
-ghost use Rattle.std.specs.Prelude.{◌≡◌, ◌≤◌, ◌≢◌, false, None, length, IfOk, IfSome, vec_capacity};
-ghost use Rattle.site_types.specs.Limits.{payload_limit};
+ghost use Rattle.std.specs.Prelude.{◌≡◌, ◌≤◌, ◌≢◌, false, None, IfOk, IfSome, vec_capacity};
 ghost use Rattle.site_types.specs.Lines.{IsFormed};
 ghost use Rattle.vault_disk.specs.Disk.{IsLater, IsSame};
 ghost use Rattle.vault_disk.specs.Ticks.{IsSameClock};
@@ -48,7 +47,6 @@ pub fn answer_request<V: Vault, C: Clock>(
     clock: &mut C,
 ) -> Option<Answer>
     requires running { desk.old.stopped ≡ false }
-    requires short { length asked.now.payload ≤ payload_limit }
     ensures acted { IfSome result (λ a. Acted (IsTaken asked.now.words asked.now.payload (V.disk desk.old.vault) (V.disk desk.new.vault) (C.ticks clock.old) (C.ticks clock.new)) desk.old.state desk.new.state (V.disk desk.old.vault) (V.disk desk.new.vault) a) }
     ensures unread { result ≡ None → (desk.new ≡ desk.old) × (clock.new ≡ clock.old) }
     ensures running { IfSome result (λ a. a ≢ Answer.DiskFault → desk.new.stopped ≡ false) }
@@ -104,7 +102,6 @@ pub fn take_turn<M: Machine, C: Clock>(
     clock: &mut C,
 ) -> Turned
     requires running { desk.old.stopped ≡ false }
-    requires short { length asked.now.payload ≤ payload_limit }
     requires room { 128 ≤ vec_capacity head.old }
     ensures turns { IsTurned asked.now.words asked.now.payload desk.old.state desk.new.state (M.disk desk.old.vault) (M.disk desk.new.vault) (C.ticks clock.old) (C.ticks clock.new) result }
     ensures running { result ≡ Turned.On → desk.new.stopped ≡ false }

@@ -1,6 +1,6 @@
 // A backup at once.
-ghost use Rattle.std.specs.Prelude.{◌≡◌, ◌≤◌, true, codes, length, IfErr, IfOk, OnErr, OnOk};
-ghost use Rattle.site_types.specs.Limits.{last_moment, payload_limit};
+ghost use Rattle.std.specs.Prelude.{◌≡◌, ◌≤◌, true, codes, IfErr, IfOk, OnErr, OnOk};
+ghost use Rattle.site_types.specs.Limits.{last_moment};
 ghost use Rattle.site_types.specs.Lines.{IsFormed};
 ghost use Rattle.vault_disk.specs.Disk.{IsSame};
 ghost use Rattle.vault_disk.specs.Steps.{Rose};
@@ -53,7 +53,6 @@ pub fn back_up<V: Vault>(
 ) -> Answer
     requires backup { is_backup request.now ≡ true }
     requires formed { IsFormed request.now }
-    requires payload { length payload.now ≤ payload_limit }
     requires moment { moment ≤ last_moment }
     requires known { (l : Ledger) × IsIndexOf l index.old }
     ensures steps { (l : Ledger) → IsIndexOf l index.old → StepsOver l request.now payload.now moment result (V.disk vault.old) (V.disk vault.new) journal.old journal.new index.new }

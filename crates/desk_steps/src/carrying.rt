@@ -1,6 +1,6 @@
 // Any request, by its class.
-ghost use Rattle.std.specs.Prelude.{◌≡◌, ◌≤◌, true, length};
-ghost use Rattle.site_types.specs.Limits.{last_moment, payload_limit};
+ghost use Rattle.std.specs.Prelude.{◌≡◌, ◌≤◌, true};
+ghost use Rattle.site_types.specs.Limits.{last_moment};
 ghost use Rattle.site_types.specs.Lines.{IsFormed};
 ghost use Rattle.vault_disk.specs.Disk.{IsSame};
 ghost use Rattle.vault_disk.specs.Steps.{Rose};
@@ -30,7 +30,6 @@ pub fn carry_out<V: Vault>(
     moment: u64,
 ) -> Answer
     requires formed { IsFormed request.now }
-    requires payload { length payload.now ≤ payload_limit }
     requires moment { moment ≤ last_moment }
     requires known { (l : Ledger) × IsIndexOf l index.old }
     ensures steps { (l : Ledger) → IsIndexOf l index.old → StepsOver l request.now payload.now moment result (V.disk vault.old) (V.disk vault.new) journal.old journal.new index.new }

@@ -1,7 +1,7 @@
-ghost use Rattle.std.specs.Prelude.{◌≡◌, ◌≢◌, ◌≤◌, true, false, length};
+ghost use Rattle.std.specs.Prelude.{◌≡◌, ◌≢◌, ◌≤◌, true, false};
 ghost use Rattle.vault_disk.specs.Disk.{IsSame};
 ghost use Rattle.vault_disk.specs.Steps.{HasCause, IsSameBut, Rose, Sends};
-ghost use Rattle.site_types.specs.Limits.{last_moment, payload_limit};
+ghost use Rattle.site_types.specs.Limits.{last_moment};
 ghost use Rattle.site_types.specs.Lines.{IsFormed};
 ghost use Rattle.desk_index.specs.Answers.{Answered, Moved, reached, IsOfRequest, IsRefusal};
 ghost use Rattle.desk_steps.specs.Steps.{is_change, is_written};
@@ -19,7 +19,6 @@ impl<V: Vault> Desk<V> {
     pub fn step(&mut self, alloc: Global, request: &Request, payload: &[u8], moment: u64) -> Answer
         requires running { self.old.stopped ≡ false }
         requires formed { IsFormed request.now }
-        requires payload { length payload.now ≤ payload_limit }
         requires moment { moment ≤ last_moment }
         ensures answers { (V.disk self.old.vault).tells → Standing (V.disk self.old.vault) self.old.state → Answered self.old.state request.now payload.now moment result }
         ensures kinds { IsOfRequest request.now payload.now result }
