@@ -4,7 +4,7 @@ use Rattle.std.specs.Prelude.{codes, if◌then◌else◌}
 use Rattle.std.specs.Option.{option_map_or}
 use Rattle.site_types.specs.declared.answer.Answer.{Answer}
 use Rattle.site_types.specs.declared.answer.Answer.TheVariants as answer
-use Rattle.site_types.specs.declared.answer.Answer.TheVariants.{Done, OutOfMemory, DiskFault}
+use Rattle.site_types.specs.declared.answer.Answer.TheVariants.{Done, OutOfMemory, Damaged, DiskFault}
 use Rattle.site_types.specs.declared.request.Request.{Request}
 use Rattle.site_types.specs.declared.request.Request.TheVariants as request
 use Rattle.policy_book.specs.Book.{Book}
@@ -14,12 +14,13 @@ use Rattle.desk_model.specs.State.{State}
 use Rattle.desk_model.specs.Refusals.{first_refusal}
 use Rattle.desk_model.specs.Settings.{Removal, gone_client, gone_policy, refusal_answer, removal_of, setting_refusals, use_refusals, uses_of}
 use Rattle.desk_model.specs.Step.{step}
-use Rattle.desk_index.specs.Answers.{IsRefusal, IsRefused, IsStepRefusal}
+use Rattle.desk_index.specs.Answers.{IsRefused, IsStepRefusal, IsUndone}
 
 -- a refusal that is the model's
-pub refused_as : (s : State) (request : Request) (payload : List ℕ) (moment : ℕ) (a : Answer) → IsRefusal a → step s request payload moment ≡ (a, s) → IsRefused s request payload moment a
+pub refused_as : (s : State) (request : Request) (payload : List ℕ) (moment : ℕ) (a : Answer) → IsUndone a → step s request payload moment ≡ (a, s) → IsRefused s request payload moment a
 refused_as s request payload moment (Done body) refusal is = absurd refusal
 refused_as s request payload moment DiskFault refusal is = absurd refusal
+refused_as s request payload moment (Damaged recorded found) refusal is = absurd refusal
 refused_as s request payload moment OutOfMemory refusal is = (tt, refl)
 refused_as s request payload moment a refusal is = (sym (ap (λ (p : Answer × State). p.0) is), sym (ap (λ (p : Answer × State). p.1) is))
 

@@ -3,7 +3,7 @@ use Rattle.std.specs.Prelude.{◌≡◌, ◌<◌, ℕ, Bool, true, false, List, 
 use Rattle.site_types.specs.Classes.{RequestClass, site_change, site_file, backup, restore, restore_at, class_of}
 use Rattle.site_types.specs.Limits.{payload_limit}
 use Rattle.site_types.specs.declared.answer.Answer.{Answer}
-use Rattle.site_types.specs.declared.answer.Answer.TheVariants.{Done, OutOfMemory, BadRequest, TooMany, BadStream, DiskFault, ReadFault, SendFault, ClockFault, NotAVault}
+use Rattle.site_types.specs.declared.answer.Answer.TheVariants.{Done, OutOfMemory, BadRequest, TooMany, BadStream, Damaged, DiskFault, ReadFault, SendFault, ClockFault, NotAVault}
 use Rattle.site_types.specs.declared.request.Request.{Request}
 use Rattle.site_types.specs.declared.request.Request.TheVariants.{Load}
 use Rattle.desk_model.specs.State.{State}
@@ -78,10 +78,17 @@ IsRefusal answer = Unit {0}
 abbrev pub IsRefused : State → Request → List ℕ → ℕ → Answer → Type 0
 IsRefused s request payload moment answer = Answered s request payload moment answer × Moved s request payload moment answer s
 
--- a refusal that a step may give, but that of a site file
+-- nothing was done, and no piece was found damaged
+abbrev pub IsUndone : Answer → Type 0
+IsUndone (Done body) = ⊥
+IsUndone DiskFault = ⊥
+IsUndone (Damaged recorded found) = ⊥
+IsUndone answer = Unit {0}
+
+-- a refusal that a step may give before a piece is read, but that of a site file
 abbrev pub IsStepRefusal : Answer → Type 0
-IsStepRefusal answer = IsOfStep answer × IsRefusal answer
+IsStepRefusal answer = IsOfStep answer × IsUndone answer
 
 -- and that too
 abbrev pub IsRefusalOf : Request → List ℕ → Answer → Type 0
-IsRefusalOf request payload answer = IsOfRequest request payload answer × IsRefusal answer
+IsRefusalOf request payload answer = IsOfRequest request payload answer × IsUndone answer

@@ -2,6 +2,7 @@ pub mod StepCases
 pub mod SettledPools
 pub mod DecidedSteps
 pub mod ReadImages
+pub mod AskedImages
 pub mod RestoredImages
 pub mod OpenedVaults
 pub mod OpenedJournals

@@ -1,7 +1,7 @@
 -- What a stop in an opening leaves of the journal.
 use Rattle.desk_model.proofs.Common.{◌≡◌, ◌∙◌, ⊎_elim, ℕ, List, ap, arith}
 use Rattle.std.proofs.Common.{◌⊎◌, inl, inr}
-use Rattle.vault_disk.specs.Disk.{Disk, Image as DiskImage, During, IsSame, Now}
+use Rattle.vault_disk.specs.Disk.{Disk, Image as DiskImage, IsSame, Now}
 use Rattle.vault_disk.specs.Steps.{LookedAround}
 use Rattle.vault_disk.proofs.Moments.{goes_on, weaker}
 use Rattle.pool_journal.specs.Records.{reading}

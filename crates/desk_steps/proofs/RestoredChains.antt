@@ -1,5 +1,5 @@
 -- A restore of a client under a policy as it was at a moment.
-use Rattle.desk_model.proofs.Common.{◌≡◌, ◌≢◌, ◌∙◌, ◌-◌, ⊎_elim, ℕ, zero, suc, Bool, true, false, List, [], ◌∷◌, length, map, take, drop, refl, sym, ap, subst, arith, Option, Some, None, Result, Ok, Err, is_none, is_some, unwrap_or, Contains, Answer, Request, BackupId, State, Image, first_refusal, if◌then◌else◌, has_image, step, unless_refused, record_named, same_id, false≢true}
+use Rattle.desk_model.proofs.Common.{◌≡◌, ◌≢◌, ◌∙◌, ◌-◌, ⊎_elim, ℕ, zero, suc, Bool, true, false, List, [], ◌∷◌, length, map, take, drop, refl, sym, ap, subst, arith, Option, Some, None, Result, Ok, Err, is_none, is_some, unwrap_or, Contains, Answer, Request, BackupId, State, Image, first_refusal, has_image, step, unless_refused, record_named, same_id, false≢true}
 use Rattle.std.specs.Result.{result_err, result_unwrap_or}
 use Rattle.std.proofs.lemmas.List.{take-append-drop}
 use Rattle.std.proofs.lemmas.List.Elements.{Contains-append_right}
@@ -26,8 +26,10 @@ use Rattle.desk_index.specs.Index.{IsIndexOf}
 use Rattle.desk_index.specs.declared.index.Index.{Index}
 use Rattle.desk_steps.specs.Steps.{IsRefusedOverTrue, StepsOver}
 use Rattle.desk_steps.specs.Readings.{IsUndamaged, answer_of, bytes_over}
-use Rattle.desk_steps.specs.Chains.{GivesChain, GivesNothing, IsGiven, answer_given, files_under, images_read, wanted}
+use Rattle.desk_steps.specs.Asked.{GivesNothing, answer_given, images_read, wanted}
+use Rattle.desk_steps.specs.Chains.{GivesChain, IsGiven, files_under}
 use Rattle.desk_steps.proofs.DecidedSteps.{Decided, decided_over, decided_seen, done_none, refused_so, some_so, step_so}
+use Rattle.desk_steps.proofs.AskedImages.{first_gives}
 use Rattle.desk_steps.proofs.StepCases.{Stays, looked_over}
 
 -- The images that are wanted.
@@ -54,25 +56,6 @@ given_wanted false images ids = ap Ok (last_same images ids)
 given_so : (s : State) (given : Result (List ℕ) ℕ) → unless_refused s (first_refusal ((is_some (result_err given), BadStream (unwrap_or (result_err given) 0)) ∷ [])) (Done (result_unwrap_or given []), s) ≡ (answer_given given, s)
 given_so s (Ok body) = refl
 given_so s (Err offset) = refl
-
--- What isn't given back.
-
-abbrev GiveNothing : List (Bool × Answer) → Type 0
-GiveNothing [] = Unit {0}
-GiveNothing (r ∷ rs) = GivesNothing r.1 × GiveNothing rs
-
-first_gives : (refusals : List (Bool × Answer)) (a : Answer) → GiveNothing refusals → first_refusal refusals ≡ Some a → GivesNothing a
-first_gives [] a nothing is = absurd (cc is)
-first_gives (r ∷ rs) a nothing is = choose r.0 (first_gives rs a nothing.1) is
-  where
-    choose : (b : Bool) → (first_refusal rs ≡ Some a → GivesNothing a) → (if b then Some r.1 else first_refusal rs) ≡ Some a → GivesNothing a
-    choose true later first = let same : r.1 ≡ a = cc first in subst GivesNothing same nothing.0
-    choose false later rest = later rest
-
--- what says nothing of it isn't what was given
-pub not_given : (a : Answer) → GivesNothing a → (given : Result (List ℕ) ℕ) → a ≢ answer_given given
-not_given a nothing (Ok body) is = subst GivesNothing is nothing
-not_given a nothing (Err offset) is = subst GivesNothing is nothing
 
 -- What is decided of such a restore.
 

@@ -22,6 +22,8 @@ use Rattle.desk_index.specs.declared.index.Index.{Index}
 use Rattle.desk_steps.specs.Steps.{IsRefusedOverTrue, StepsOver}
 use Rattle.desk_steps.specs.Readings.{GivesImage, IsImageOf, answer_of, bytes_over}
 use Rattle.desk_steps.proofs.DecidedSteps.{Decided, decided_over, decided_seen, done_none, refused_so, some_so, step_so}
+use Rattle.desk_steps.specs.Asked.{GivesNothing}
+use Rattle.desk_steps.proofs.AskedImages.{first_gives}
 use Rattle.desk_steps.proofs.ReadImages.{image_there, named_has, undamaged_one}
 use Rattle.desk_steps.proofs.StepCases.{Stays, looked_over}
 
@@ -33,6 +35,11 @@ module _ (request : Request) (id : BackupId) (copy : Option ℕ) (restores : cla
 
   refused_on : (s : State) → IsDecision s request payload moment d → ((body : List ℕ) → d.answer ≢ Done body) → IsStepRefusal d.answer × IsRefused s request payload moment d.answer
   refused_on s here other = refused_so s request class payload moment d restores here d.answer (some_so s request class payload moment d restores here (λ answer_is change_is. other [] answer_is))
+
+  pub refusal_gives : ((body : List ℕ) → d.answer ≢ Done body) → GivesNothing d.answer
+  refusal_gives other =
+      first_gives (restore_refusals (image_named id (seen index.site index.catalogue).images) id copy) d.answer (tt, (tt, (tt, tt)))
+      (some_so (seen index.site index.catalogue) request class payload moment d restores (decided_seen index request payload size moment d size_is decided) (λ answer_is change_is. other [] answer_is))
 
   pub refusal_plain : ((body : List ℕ) → d.answer ≢ Done body) → IsStepRefusal d.answer
   refusal_plain other = (refused_on (seen index.site index.catalogue) (decided_seen index request payload size moment d size_is decided) other).0

@@ -1,13 +1,18 @@
 // Any request, by its class.
-ghost use Rattle.std.specs.Prelude.{◌≡◌, ◌≤◌, true};
+ghost use Rattle.std.specs.Prelude.{◌≡◌, ◌≤◌, ℕ, true, false, List, Result, Contains};
+ghost use Rattle.site_types.specs.Classes.{class_of};
 ghost use Rattle.site_types.specs.Limits.{last_moment};
 ghost use Rattle.site_types.specs.Lines.{IsFormed};
+ghost use Rattle.site_types.specs.declared.id.BackupId.{BackupId as Id};
 ghost use Rattle.vault_disk.specs.Disk.{IsSame};
 ghost use Rattle.vault_disk.specs.Steps.{Rose};
 ghost use Rattle.vault_ledger.specs.Ledger.{Ledger};
 ghost use Rattle.desk_index.specs.Answers.{IsOfRequest, IsRefusal};
 ghost use Rattle.desk_index.specs.Index.{IsIndexOf, SameLists};
 ghost use Rattle.desk_steps.specs.Steps.{StepsOver, is_change, is_written};
+ghost use Rattle.desk_steps.specs.Readings.{IsWholeImage};
+ghost use Rattle.desk_steps.specs.Backups.{is_backup};
+ghost use Rattle.desk_steps.specs.Asked.{IsOneDamaged, answer_given, images_read};
 
 use crate::backup::back_up;
 use crate::chain::restore_at;
@@ -37,6 +42,8 @@ pub fn carry_out<V: Vault>(
     ensures refused { IsRefusal result → SameLists index.old index.new }
     ensures untouched { is_change request.now ≡ true → IsRefusal result → vault.new ≡ vault.old }
     ensures memory { is_written request.now ≡ true → result ≡ Answer.OutOfMemory → vault.new ≡ vault.old }
+    ensures whole { (l : Ledger) (given : Result (List ℕ) ℕ) (id : Id) → IsIndexOf l index.old → (V.disk vault.old).tells → result ≡ answer_given given → Contains (images_read (class_of request.now) moment l.outline) id → IsWholeImage (V.disk vault.old).seen l id }
+    ensures damaged { (l : Ledger) (recorded found : List ℕ) → IsIndexOf l index.old → (V.disk vault.old).tells → is_backup request.now ≡ false → result ≡ Answer.Damaged recorded found → IsOneDamaged (V.disk vault.old).seen l (images_read (class_of request.now) moment l.outline) recorded found }
     ensures failed { result ≡ Answer.DiskFault → Rose (V.disk vault.old).faults (V.disk vault.new).faults }
     ensures same { IsSame (V.disk vault.old) (V.disk vault.new) }
 {

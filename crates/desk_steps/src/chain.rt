@@ -14,7 +14,8 @@ ghost use Rattle.desk_index.specs.Answers.{IsOfStep, IsStepRefusal, reads_first}
 ghost use Rattle.desk_index.specs.Index.{IsIndexOf};
 ghost use Rattle.desk_steps.specs.Steps.{IsRefusedOverTrue, StepsOver};
 ghost use Rattle.desk_steps.specs.Readings.{IsWholeImage};
-ghost use Rattle.desk_steps.specs.Chains.{GivesChain, GivesNothing, IsBroken, IsGiven, answer_given, files_under, images_read, wanted};
+ghost use Rattle.desk_steps.specs.Asked.{GivesNothing, IsOneDamaged, answer_given, images_read, wanted};
+ghost use Rattle.desk_steps.specs.Chains.{GivesChain, IsBroken, IsGiven, files_under};
 
 use crate::reading::read_images;
 use crate::restoring::answer_of;
@@ -42,6 +43,7 @@ pub fn restore_at<V: Vault>(
     requires known { (l : Ledger) × IsIndexOf l index.old }
     ensures steps { (l : Ledger) (end : ℕ) → IsIndexOf l index.old → StepsOver l request.now payload.now moment result (V.disk vault.old) (V.disk vault.new) end end index.new }
     ensures whole { (l : Ledger) (given : Result (List ℕ) ℕ) (id : Id) → IsIndexOf l index.old → (V.disk vault.old).tells → result ≡ answer_given given → Contains (images_read (class_of request.now) moment l.outline) id → IsWholeImage (V.disk vault.old).seen l id }
+    ensures damaged { (l : Ledger) (recorded found : List ℕ) → IsIndexOf l index.old → (V.disk vault.old).tells → result ≡ Answer.Damaged recorded found → IsOneDamaged (V.disk vault.old).seen l (images_read (class_of request.now) moment l.outline) recorded found }
     ensures kinds { IsOfStep result }
     ensures index { index.new ≡ index.old }
     ensures failed { result ≡ Answer.DiskFault → Rose (V.disk vault.old).faults (V.disk vault.new).faults }

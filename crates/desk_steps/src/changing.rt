@@ -1,5 +1,5 @@
 // A request that changes the site, and a site file.
-ghost use Rattle.std.specs.Prelude.{◌≡◌, ◌≤◌, true, IfErr, IfOk, OnErr};
+ghost use Rattle.std.specs.Prelude.{◌≡◌, ◌≢◌, ◌≤◌, ℕ, true, List, IfErr, IfOk, OnErr};
 ghost use Rattle.site_types.specs.Limits.{last_moment};
 ghost use Rattle.site_types.specs.Lines.{IsFormed};
 ghost use Rattle.vault_disk.specs.Disk.{IsSame};
@@ -33,6 +33,7 @@ pub fn change_site<V: Vault>(
     requires known { (l : Ledger) × IsIndexOf l index.old }
     ensures steps { (l : Ledger) → IsIndexOf l index.old → StepsOver l request.now payload.now moment result (V.disk vault.old) (V.disk vault.new) journal.old journal.new index.new }
     ensures kinds { IsOfRequest request.now payload.now result }
+    ensures undamaged { (recorded found : List ℕ) → result ≢ Answer.Damaged recorded found }
     ensures refused { IsRefusal result → SameLists index.old index.new × (journal.new ≡ journal.old) × (vault.new ≡ vault.old) }
     ensures failed { result ≡ Answer.DiskFault → Rose (V.disk vault.old).faults (V.disk vault.new).faults }
     ensures same { IsSame (V.disk vault.old) (V.disk vault.new) }

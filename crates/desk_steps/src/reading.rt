@@ -11,6 +11,7 @@ ghost use Rattle.vault_ledger.specs.Storage.{ReadingFails};
 ghost use Rattle.desk_index.specs.Index.{IsIndexOf};
 ghost use Rattle.desk_index.specs.declared.index.Index.{Index as Known};
 ghost use Rattle.desk_steps.specs.Readings.{IsImageOf, IsUndamaged, IsWholeImage, bytes_over};
+ghost use Rattle.desk_steps.specs.Asked.{ReadsFail};
 
 use copy_fragments::CopyFault;
 use desk_index::Index;
@@ -67,6 +68,7 @@ pub fn read_images<V: Vault>(
     requires there { (l : Ledger) × IsIndexOf l index.old × ((id : Id) → Contains ids.now id → has_image id l.outline.images ≡ true) }
     ensures bytes { (l : Ledger) → IsIndexOf l index.old → ((id : Id) → Contains ids.now id → has_image id l.outline.images ≡ true) → (V.disk vault.old).tells → IfOk result (λ read. read.items ≡ map (bytes_over (V.disk vault.old).seen l) ids.now) }
     ensures whole { (l : Ledger) → IsIndexOf l index.old → (V.disk vault.old).tells → OnOk result ((id : Id) → Contains ids.now id → IsWholeImage (V.disk vault.old).seen l id) }
+    ensures fails { (l : Ledger) → IsIndexOf l index.old → ((id : Id) → Contains ids.now id → has_image id l.outline.images ≡ true) → (V.disk vault.old).tells → IfErr result (ReadsFail (V.disk vault.old).seen l ids.now) }
     ensures undamaged { (l : Ledger) → IsIndexOf l index.old → ((id : Id) → Contains ids.now id → has_image id l.outline.images ≡ true) → (V.disk vault.old).tells → are_true (V.disk vault.old).seen l l.outline.stored ≡ true → IfErr result IsUndamaged }
     ensures cause { IfErr result (λ fault. fault ≡ CopyFault.DiskFault → Rose (V.disk vault.old).faults (V.disk vault.new).faults) }
     ensures index { index.new ≡ index.old }

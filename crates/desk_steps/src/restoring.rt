@@ -1,5 +1,5 @@
 // A restore of an image by its id.
-ghost use Rattle.std.specs.Prelude.{◌≡◌, ◌≤◌, ℕ, true, List, Option, IfErr, OnOk};
+ghost use Rattle.std.specs.Prelude.{◌≡◌, ◌≤◌, ℕ, true, List, Option, Result, Contains, IfErr, OnOk};
 ghost use Rattle.site_types.specs.Classes.{class_of, restore};
 ghost use Rattle.site_types.specs.Limits.{last_moment};
 ghost use Rattle.site_types.specs.Lines.{IsFormed};
@@ -12,6 +12,7 @@ ghost use Rattle.desk_index.specs.Answers.{IsOfStep, IsStepRefusal};
 ghost use Rattle.desk_index.specs.Index.{IsIndexOf};
 ghost use Rattle.desk_steps.specs.Steps.{IsRefusedOverTrue, StepsOver};
 ghost use Rattle.desk_steps.specs.Readings.{GivesImage, IsWholeImage, answer_of};
+ghost use Rattle.desk_steps.specs.Asked.{GivesNothing, IsOneDamaged, answer_given, images_read};
 
 use crate::reading::read_image;
 use copy_fragments::CopyFault;
@@ -36,7 +37,8 @@ pub fn restore<V: Vault>(
     requires moment { moment ≤ last_moment }
     requires known { (l : Ledger) × IsIndexOf l index.old }
     ensures steps { (l : Ledger) (end : ℕ) → IsIndexOf l index.old → StepsOver l request.now payload.now moment result (V.disk vault.old) (V.disk vault.new) end end index.new }
-    ensures whole { (l : Ledger) (body : List ℕ) → IsIndexOf l index.old → (V.disk vault.old).tells → result ≡ Answer.Done body → IsWholeImage (V.disk vault.old).seen l id.now }
+    ensures whole { (l : Ledger) (given : Result (List ℕ) ℕ) (one : Id) → IsIndexOf l index.old → (V.disk vault.old).tells → result ≡ answer_given given → Contains (images_read (class_of request.now) moment l.outline) one → IsWholeImage (V.disk vault.old).seen l one }
+    ensures damaged { (l : Ledger) (recorded found : List ℕ) → IsIndexOf l index.old → (V.disk vault.old).tells → result ≡ Answer.Damaged recorded found → IsOneDamaged (V.disk vault.old).seen l (images_read (class_of request.now) moment l.outline) recorded found }
     ensures kinds { IsOfStep result }
     ensures index { index.new ≡ index.old }
     ensures failed { result ≡ Answer.DiskFault → Rose (V.disk vault.old).faults (V.disk vault.new).faults }
@@ -67,6 +69,7 @@ fn check_restore(
     ensures steps { (l : Ledger) (id : Id) (copy : Option ℕ) → IsIndexOf l index.now → class_of request.now ≡ restore id copy → OnOk result (GivesImage l id request.now payload.now moment) }
     ensures refused { (l : Ledger) → IsIndexOf l index.now → IfErr result (IsRefusedOverTrue l request.now payload.now moment) }
     ensures plain { IfErr result IsStepRefusal }
+    ensures unread { IfErr result GivesNothing }
 {
     let size = payload.len() as u64;
     let Ok(decision) = decide(alloc, &index.site, &index.catalogue, request, size, moment) else {

@@ -1,5 +1,5 @@
 -- What a step over the index of a ledger is to a desk.
-use Rattle.std.proofs.Common.{◌≡◌, ◌≢◌, ℕ, Bool, List, sym, ap, subst}
+use Rattle.std.proofs.Common.{◌≡◌, ◌≢◌, ◌∙◌, ℕ, Bool, List, Result, Ok, Err, sym, ap, subst}
 use Rattle.site_types.specs.declared.answer.Answer.{Answer}
 use Rattle.site_types.specs.declared.answer.Answer.TheVariants.{DiskFault}
 use Rattle.site_types.specs.declared.request.Request.{Request}
@@ -8,11 +8,12 @@ use Rattle.vault_disk.specs.Steps.{Rests}
 use Rattle.desk_model.specs.State.{State}
 use Rattle.vault_ledger.specs.Keeping.{KeptLedger, SaysLedger}
 use Rattle.vault_ledger.specs.Ledger.{Ledger, journal_reads, state_over}
-use Rattle.vault_ledger.proofs.KnownLedgers.{says_rests}
+use Rattle.vault_ledger.proofs.KnownLedgers.{says_reads, says_rests}
 use Rattle.desk_index.specs.Answers.{Answered, Moved, reached}
 use Rattle.desk_index.specs.Index.{IsIndexOf}
 use Rattle.desk_index.specs.declared.index.Index.{Index}
 use Rattle.desk_steps.specs.Steps.{StepsFrom, StepsOver}
+use Rattle.desk_steps.specs.Asked.{answer_given}
 use Rattle.site_desk.specs.Desk.{DeskValue, Known, desk_state}
 use Rattle.site_desk.specs.Stands.{Between, Standing, state_by, state_in}
 use Rattle.site_desk.proofs.Standings.{durable_between, kept_standing, kept_state, standing_known, state_is}
@@ -93,6 +94,26 @@ pub value_steps : {V : Type 0} (disk : V → Disk) (vault : V) (end : ℕ) (befo
 value_steps {V} disk vault end before stopped value is counts known request payload moment answer result new end' after steps same =
     subst (λ (d : DeskValue V). (disk d.vault).tells → Standing (disk d.vault) d.state → Steps d.state request payload moment result (disk d.vault) new (desk_state new)) is
     (λ told standing. subst (λ (a : Answer). Steps (desk_state (disk vault)) request payload moment a (disk vault) new (desk_state new)) same (steps_so request payload moment answer (disk vault) new end end' before after known steps told (counts told) standing))
+
+-- What is known of the ledger that the journal reads as.
+
+-- a fault of the disk gives nothing back
+pub fault_gives_none : (given : Result (List ℕ) ℕ) → DiskFault ≢ answer_given given
+fault_gives_none (Ok body) is = absurd (cc is)
+fault_gives_none (Err offset) is = absurd (cc is)
+
+index_of : (disk : Disk) (end : ℕ) (index : Index) → Known disk end index → disk.tells → (l : Ledger) → journal_reads disk.seen ≡ Ok l → IsIndexOf l index
+index_of disk end index known told l reads =
+    let said = known.says told in
+    let both : Ok said.0 ≡ Ok l = sym (says_reads disk end said.0 said.2) ∙ reads in
+    let same : said.0 ≡ l = cc both in
+    subst (λ (m : Ledger). IsIndexOf m index) same said.1
+
+pub value_reads : {V : Type 0} (disk : V → Disk) (vault : V) (end : ℕ) (before : Index) (stopped : Bool) (value : DeskValue V) → value_of disk vault before stopped ≡ value → Known (disk vault) end before
+    → (P : Disk → Type 0) (l : Ledger) → (IsIndexOf l before → (disk vault).tells → P (disk vault)) → (disk value.vault).tells → journal_reads (disk value.vault).seen ≡ Ok l → P (disk value.vault)
+value_reads {V} disk vault end before stopped value is known P l so =
+    subst (λ (d : DeskValue V). (disk d.vault).tells → journal_reads (disk d.vault).seen ≡ Ok l → P (disk d.vault)) is
+    (λ told reads. so (index_of (disk vault) end before known told l reads) told)
 
 -- A send.
 

@@ -1,10 +1,16 @@
-ghost use Rattle.std.specs.Prelude.{◌≡◌, ◌≢◌, ◌≤◌, true, false};
+ghost use Rattle.std.specs.Prelude.{◌≡◌, ◌≢◌, ◌≤◌, ℕ, true, false, List, Result, Ok, Contains};
 ghost use Rattle.vault_disk.specs.Disk.{IsSame};
 ghost use Rattle.vault_disk.specs.Steps.{HasCause, IsSameBut, Rose, Sends};
+ghost use Rattle.site_types.specs.Classes.{class_of};
+ghost use Rattle.site_types.specs.declared.id.BackupId.{BackupId as Id};
 ghost use Rattle.site_types.specs.Limits.{last_moment};
 ghost use Rattle.site_types.specs.Lines.{IsFormed};
+ghost use Rattle.vault_ledger.specs.Ledger.{Ledger, journal_reads};
 ghost use Rattle.desk_index.specs.Answers.{Answered, Moved, reached, IsOfRequest, IsRefusal};
 ghost use Rattle.desk_steps.specs.Steps.{is_change, is_written};
+ghost use Rattle.desk_steps.specs.Readings.{IsWholeImage};
+ghost use Rattle.desk_steps.specs.Backups.{is_backup};
+ghost use Rattle.desk_steps.specs.Asked.{IsOneDamaged, answer_given, images_read};
 ghost use Rattle.site_desk.specs.Stands.{Standing, Between};
 
 use crate::desk::Desk;
@@ -29,6 +35,9 @@ impl<V: Vault> Desk<V> {
         ensures untouched { is_change request.now ≡ true → IsRefusal result → self.new.vault ≡ self.old.vault }
         // All memory of a request that writes a record is taken before its first call of the vault.
         ensures memory { is_written request.now ≡ true → result ≡ Answer.OutOfMemory → self.new.vault ≡ self.old.vault }
+        // What a restore gives back, and when it tells damage, over any vault that tells, whether or not it stands for a state.
+        ensures whole { (l : Ledger) (given : Result (List ℕ) ℕ) (id : Id) → (V.disk self.old.vault).tells → journal_reads (V.disk self.old.vault).seen ≡ Ok l → result ≡ answer_given given → Contains (images_read (class_of request.now) moment l.outline) id → IsWholeImage (V.disk self.old.vault).seen l id }
+        ensures damaged { (l : Ledger) (recorded found : List ℕ) → (V.disk self.old.vault).tells → journal_reads (V.disk self.old.vault).seen ≡ Ok l → is_backup request.now ≡ false → result ≡ Answer.Damaged recorded found → IsOneDamaged (V.disk self.old.vault).seen l (images_read (class_of request.now) moment l.outline) recorded found }
         ensures running { result ≢ Answer.DiskFault → self.new.stopped ≡ false }
         ensures stopped { result ≡ Answer.DiskFault → self.new.stopped ≡ true }
         ensures failed { result ≡ Answer.DiskFault → Rose (V.disk self.old.vault).faults (V.disk self.new.vault).faults }

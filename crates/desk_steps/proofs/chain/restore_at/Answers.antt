@@ -2,10 +2,13 @@ use Rattle.std.proofs.Common.{◌∙◌, List, sym, subst}
 use Rattle.std.specs.Prelude.{Contains}
 use Rattle.site_types.specs.declared.answer.Answer.{Answer}
 use Rattle.site_types.specs.declared.id.BackupId.{BackupId}
+use Rattle.desk_model.specs.Restores.{given_by}
 use Rattle.desk_index.specs.Index.{IsIndexOf}
 use Rattle.desk_steps.specs.Steps.{StepsOver}
+use Rattle.desk_steps.specs.Asked.{ReadsFail}
 use Rattle.desk_steps.specs.Chains.{GivesChain}
-use Rattle.desk_steps.proofs.RestoredChains.{chain_over, not_given, unread_over, wanted_in}
+use Rattle.desk_steps.proofs.AskedImages.{damaged_so, given_undamaged, not_damaged, not_given}
+use Rattle.desk_steps.proofs.RestoredChains.{chain_over, unread_over, wanted_in}
 use Rattle.desk_steps.proofs.StepCases.{refused_over}
 use Rattle.desk_steps.proofs.chain.restore_at.Goals as goal
 
@@ -39,3 +42,16 @@ returns-in-Err-clause-whole g c l given id is told same among = absurd (not_give
 pub returns-in-Ok-read_images-clause-whole : goal.returns-in-Ok-read_images-clause-whole
 returns-in-Ok-read_images-clause-whole g c l given id is told same among =
     c.in-Ok-read_images.ensures.whole l is told id (subst (λ (ids : List BackupId). Contains ids id) (sym (c.wanted.ensures ∙ c.in-Ok.ensures.asked l is)) among)
+
+pub returns-in-Err-clause-damaged : goal.returns-in-Err-clause-damaged
+returns-in-Err-clause-damaged g c l recorded found is told same = absurd (not_damaged c.in-Err.refusal c.in-Err.ensures.unread recorded found same)
+
+pub returns-in-Ok-read_images-clause-damaged : goal.returns-in-Ok-read_images-clause-damaged
+returns-in-Ok-read_images-clause-damaged g c l recorded found is told same =
+    absurd (given_undamaged (given_by c.in-Ok.chain.files c.in-Ok-read_images.images.items) c.given_back.result c.given_back.ensures recorded found same)
+
+pub returns-clause-damaged : goal.returns-clause-damaged
+returns-clause-damaged g c l recorded found is told same =
+    let there = λ (id : BackupId) (among : Contains c.wanted.result.now id). c.in-Ok.ensures.there l is id (wanted_in c.in-Ok.chain.files c.in-Ok.chain.ids id (subst (λ (ids : List BackupId). Contains ids id) c.wanted.ensures among)) in
+    damaged_so (g.V.Vault.disk c.args.vault.now).seen l _ c.in-Err-read_images.fault recorded found
+    (subst (λ (ids : List BackupId). ReadsFail (g.V.Vault.disk c.args.vault.now).seen l ids c.in-Err-read_images.fault) (c.wanted.ensures ∙ c.in-Ok.ensures.asked l is) (c.in-Err-read_images.ensures.fails l is there told)) (sym c.answer_of.ensures ∙ same)

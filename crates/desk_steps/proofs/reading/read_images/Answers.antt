@@ -5,6 +5,8 @@ use Rattle.site_types.specs.declared.id.BackupId.{BackupId}
 use Rattle.vault_disk.specs.Disk.{Image as DiskImage}
 use Rattle.vault_disk.proofs.Moments.{same_on}
 use Rattle.desk_index.specs.Index.{IsIndexOf}
+use Rattle.desk_steps.specs.Asked.{ReadsFail}
+use Rattle.desk_steps.proofs.AskedImages.{fails_before, one_fails}
 use Rattle.desk_steps.specs.Readings.{IsUndamaged, IsWholeImage, bytes_over}
 use Rattle.desk_steps.proofs.ReadImages.{each_more, err_is, item_among, read_more, same_seen, undamaged_read}
 use Rattle.desk_steps.proofs.StepCases.{looked_after}
@@ -38,3 +40,12 @@ loop-id-preserved g c =
 pub returns-clause-whole : goal.returns-clause-whole
 returns-clause-whole g c l is told id among =
     c.loop-id.invariant.whole l is told id (subst (λ (ids : List BackupId). Contains ids id) (sym (take_all c.loop-id.id-index c.args.ids.now c.loop-id-test.false)) among)
+
+pub returns-in_err-bytes-clause-fails : goal.returns-in_err-bytes-clause-fails
+returns-in_err-bytes-clause-fails g c l is there told =
+    let i = c.loop-id.invariant in
+    let among = item_among c.args.ids.now c.loop-id.id-index c.id-item.result c.loop-id-test.true c.id-item.is in
+    err_is c.from_residual.result c.in_err-bytes.field-0.0 (ReadsFail (g.V.Vault.disk c.args.vault.now).seen l c.args.ids.now) (search rules)
+    (fails_before (g.V.Vault.disk c.args.vault.now) (g.V.Vault.disk c.loop-id.vault) (i.looked told) l c.args.ids.now c.in_err-bytes.field-0.0
+    (one_fails (g.V.Vault.disk c.loop-id.vault).seen l is.follows.order c.id-item.result (there c.id-item.result among) c.args.ids.now among c.in_err-bytes.field-0.0
+    (λ image copy of. c.in_err-bytes.ensures.fails l image copy (subst (IsIndexOf l) (sym i.index) is) of (i.same.tells told))))

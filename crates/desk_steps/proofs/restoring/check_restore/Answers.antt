@@ -1,5 +1,5 @@
 use Rattle.std.proofs.Common.{refl}
-use Rattle.desk_steps.proofs.RestoredImages.{gives_image, image_has, refusal_over, refusal_plain}
+use Rattle.desk_steps.proofs.RestoredImages.{gives_image, image_has, refusal_gives, refusal_over, refusal_plain}
 use Rattle.desk_steps.proofs.restoring.check_restore.Goals as goal
 
 pub returns-in_default-answer : goal.returns-in_default-answer
@@ -10,6 +10,7 @@ returns-in_default-answer c =
       steps = λ l id copy is restores. tt;
       refused = λ l is. refusal_over c.args.request.now r.0 r.1 r.2 c.args.payload.now c.args.moment c.args.index.now _ c.in-Ok.decision refl c.in-Ok.ensures.decided l is c.in_default-answer.not-Done;
       plain = refusal_plain c.args.request.now r.0 r.1 r.2 c.args.payload.now c.args.moment c.args.index.now _ c.in-Ok.decision refl c.in-Ok.ensures.decided c.in_default-answer.not-Done;
+      unread = refusal_gives c.args.request.now r.0 r.1 r.2 c.args.payload.now c.args.moment c.args.index.now _ c.in-Ok.decision refl c.in-Ok.ensures.decided c.in_default-answer.not-Done;
     }
 
 pub returns-clause-there : goal.returns-clause-there
